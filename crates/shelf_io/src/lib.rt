@@ -1,0 +1,11 @@
+//! Files and output behind two traits, with shelves and sinks in memory and over the real system, and
+//! the reading of a whole file within a limit.
+#![tactic(auto)]
+
+mod failed;
+mod shelf;
+mod sink;
+
+pub use failed::Failed;
+pub use shelf::Shelf;
+pub use sink::Sink;
