@@ -5,7 +5,9 @@
 mod failed;
 mod shelf;
 mod sink;
+mod whole_file;
 
 pub use failed::Failed;
 pub use shelf::Shelf;
 pub use sink::Sink;
+pub use whole_file::{TakeFault, take_file};
