@@ -1,0 +1,69 @@
+ghost use Rattle.std.specs.Prelude.{◌≡◌, ℕ, ℤ, pos, ◌*◌, ◌^◌, ◌≤◌, ◌<ℤ◌, unsigned_abs};
+ghost use Rattle.interval_specs.specs.Ends.{Ends, IsHeld};
+ghost use Rattle.interval_specs.specs.Operations.{ratio_at};
+
+use crate::rounds::{ceil_after, floor};
+use crate::scale::Scale;
+use std::marker::{Model, PhantomData};
+
+/// An interval whose ends count parts of the scale `S`. Its ends are in order, and their sizes at most 10^25.
+#[derive(Clone, Copy)]
+pub struct Iv<S: Scale> {
+    lo: i128,
+    hi: i128,
+    scale: PhantomData<S>,
+}
+
+impl<S: Scale> Model for Iv<S> {
+    ghost Value = { Ends };
+
+    ghost view = { λ a. record { lo = a.lo; hi = a.hi } };
+
+    ghost invariant = { λ a. IsHeld (record { lo = a.lo; hi = a.hi }) };
+
+    ghost inverse = { λ e. record { lo = e.lo; hi = e.hi; scale = record {} } };
+}
+
+impl<S: Scale> Iv<S> {
+    /// The interval with these ends, in parts of the scale.
+    pub fn of_ends(lo: i128, hi: i128) -> Iv<S>
+        requires { IsHeld (record { lo = lo; hi = hi }) }
+        ensures is { result ≡ record { lo = lo; hi = hi } }
+        ensures held { IsHeld result }
+    {
+        Iv {
+            lo,
+            hi,
+            scale: PhantomData,
+        }
+    }
+
+    /// The fraction p / q.
+    pub fn of_ratio(p: i128, q: i128) -> Iv<S>
+        requires positive { pos 0 <ℤ q }
+        requires room { unsigned_abs p * S.unit ≤ 10 ^ 37 }
+        requires size { unsigned_abs p * S.unit ≤ 10 ^ 25 * unsigned_abs q }
+        ensures is { result ≡ ratio_at S.unit p (unsigned_abs q) }
+        ensures held { IsHeld result }
+    {
+        let units = p * S::UNIT;
+        let low = floor(units, q);
+        Self::of_ends(low, ceil_after(low, units, q))
+    }
+
+    /// The lower end, in parts of the scale.
+    pub fn lo(self) -> i128
+        ensures is { result ≡ self.lo }
+        ensures held { IsHeld self }
+    {
+        self.lo
+    }
+
+    /// The upper end, in parts of the scale.
+    pub fn hi(self) -> i128
+        ensures is { result ≡ self.hi }
+        ensures held { IsHeld self }
+    {
+        self.hi
+    }
+}

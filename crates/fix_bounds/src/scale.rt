@@ -1,0 +1,63 @@
+ghost use Rattle.std.specs.Prelude.{◌≡◌, ℕ, ℤ, pos, ◌^◌, ◌≤◌};
+ghost use Rattle.std.specs.Int.{◌∣◌};
+ghost use Rattle.std.proofs.Common.{refl, lit≤};
+ghost use Rattle.std.proofs.Math.Nat.{dvd-mul_right};
+
+/// How many parts a unit is counted in: the ends of an interval at this scale are whole numbers of such parts.
+pub trait Scale: Copy {
+    /// The number of parts of one unit.
+    const UNIT: i128;
+
+    ghost UNIT: { ℤ };
+
+    // the same as a natural number, which the clauses cite
+    ghost unit: { ℕ };
+
+    ghost unit_is: { UNIT ≡ pos unit };
+
+    ghost least: { 10 ^ 6 ≤ unit };
+
+    ghost most: { unit ≤ 10 ^ 12 };
+
+    ghost divides: { unit ∣ 10 ^ 12 };
+}
+
+/// The scale of everything that is printed or decided: millionths of millionths.
+#[derive(Clone, Copy)]
+pub struct Base;
+
+impl Scale for Base {
+    const UNIT: i128 = 1_000_000_000_000;
+
+    ghost UNIT = { pos 1_000_000_000_000 };
+
+    ghost unit = { 10 ^ 12 };
+
+    ghost unit_is = { refl };
+
+    ghost least = { lit≤ tt };
+
+    ghost most = { lit≤ tt };
+
+    ghost divides = { dvd-mul_right (10 ^ 12) 1 };
+}
+
+/// A coarser scale, whose numbers are shorter: hundredths of millionths.
+#[derive(Clone, Copy)]
+pub struct Quick;
+
+impl Scale for Quick {
+    const UNIT: i128 = 100_000_000;
+
+    ghost UNIT = { pos 100_000_000 };
+
+    ghost unit = { 10 ^ 8 };
+
+    ghost unit_is = { refl };
+
+    ghost least = { lit≤ tt };
+
+    ghost most = { lit≤ tt };
+
+    ghost divides = { dvd-mul_right (10 ^ 8) (10 ^ 4) };
+}

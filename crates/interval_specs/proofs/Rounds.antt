@@ -1,0 +1,150 @@
+-- Rounding down and up by their inequalities: nothing above this file looks into the two functions.
+use Rattle.std.proofs.Common.{ℕ, ℤ, pos, negsuc, suc, ◌≡◌, ◌+◌, ◌*◌, ◌/◌, ◌%◌, ◌≤◌, ◌<◌, ◌+ℤ◌, ◌*ℤ◌, neg_ℤ, ◌<ℤ◌, ◌≤ℤ◌, arith, mul-le-mul_left, div-add-mod', mod-lt, add-one-le, unsigned_abs, refl, ap, subst, sym}
+use Rattle.std.proofs.lemmas.Int.{ints, by_lt_z}
+use Rattle.std.proofs.lemmas.Nat.{le-div, div_below}
+use Rattle.std.specs.Int.{int_div_euclid}
+use borrow.Author.Differences.{up, down, sum_is_lem}
+use Rattle.interval_specs.specs.Rounding.{floor_over, ceil_over}
+use Rattle.interval_specs.proofs.Order.{parts, by_parts, by_parts_lt, to_parts, to_parts_lt, cancel_front, mono_front, antisym_ℤ}
+
+-- the floor is at most the quotient
+pub floor_below : (z : ℤ) (n : ℕ) → 0 < n → (floor_over z n *ℤ pos n) ≤ℤ z
+unfolding floor_over
+floor_below (pos a) n some = let s = div-add-mod' a n in by_parts (pos (a / n) *ℤ pos n) (pos a) (simp parts (omega arith))
+floor_below (negsuc a) n some =
+    let s = div-add-mod' a n in
+    let r : a % n < n = mod-lt a some in
+    by_parts (negsuc (a / n) *ℤ pos n) (negsuc a) (simp parts (omega arith))
+
+-- no greater number is at most the quotient
+pub floor_greatest : (z k : ℤ) (n : ℕ) → 0 < n → (k *ℤ pos n) ≤ℤ z → k ≤ℤ floor_over z n
+unfolding floor_over
+floor_greatest (pos a) (pos c) n some h =
+    let p = simp parts at (to_parts (pos c *ℤ pos n) (pos a) h) in
+    let q : c ≤ a / n = le-div c a n some (omega arith) in
+    omega (arith, ints)
+floor_greatest (pos a) (negsuc c) n some h = omega (arith, ints)
+floor_greatest (negsuc a) (pos c) n some h =
+    let p = simp parts at (to_parts (pos c *ℤ pos n) (negsuc a) h) in
+    absurd (omega arith)
+floor_greatest (negsuc a) (negsuc c) n some h =
+    let p = simp parts at (to_parts (negsuc c *ℤ pos n) (negsuc a) h) in
+    let q : a / n < suc c = div_below a n (suc c) some (omega arith) in
+    omega (arith, ints)
+
+-- the ceiling is at least the quotient
+pub ceil_above : (z : ℤ) (n : ℕ) → 0 < n → z ≤ℤ (ceil_over z n *ℤ pos n)
+unfolding ceil_over
+ceil_above z n some =
+    let f = floor_over (neg_ℤ z) n in
+    let p = simp parts at (to_parts (f *ℤ pos n) (neg_ℤ z) (floor_below (neg_ℤ z) n some)) in
+    by_parts z (neg_ℤ f *ℤ pos n) (simp parts (omega arith))
+
+-- no lesser number is at least the quotient
+pub ceil_least : (z k : ℤ) (n : ℕ) → 0 < n → z ≤ℤ (k *ℤ pos n) → ceil_over z n ≤ℤ k
+unfolding ceil_over
+ceil_least z k n some h =
+    let p = simp parts at (to_parts z (k *ℤ pos n) h) in
+    let l = floor_greatest (neg_ℤ z) (neg_ℤ k) n some (by_parts (neg_ℤ k *ℤ pos n) (neg_ℤ z) (simp parts (omega arith))) in
+    let q = simp parts at (to_parts (neg_ℤ k) (floor_over (neg_ℤ z) n) l) in
+    by_parts (neg_ℤ (floor_over (neg_ℤ z) n)) k (simp parts (omega arith))
+
+-- the floor at a coarse scale, in fine units, is at most the floor at the fine scale
+pub floor_encloses : (m n n' : ℕ) (z z' : ℤ) → 0 < n → 0 < n' → (pos (m * n') *ℤ z) ≤ℤ (pos n *ℤ z') → (pos m *ℤ floor_over z n) ≤ℤ floor_over z' n'
+floor_encloses m n n' z z' some some' h =
+    let f = floor_over z n in
+    let k = mono_front (m * n') (f *ℤ pos n) z (floor_below z n some) in
+    let p = simp parts at (to_parts (pos (m * n') *ℤ (f *ℤ pos n)) (pos (m * n') *ℤ z) k) in
+    let q = simp parts at (to_parts (pos (m * n') *ℤ z) (pos n *ℤ z') h) in
+    let fine = cancel_front n ((pos m *ℤ f) *ℤ pos n') z' some (by_parts (pos n *ℤ ((pos m *ℤ f) *ℤ pos n')) (pos n *ℤ z') (simp parts (omega arith))) in
+    floor_greatest z' (pos m *ℤ f) n' some' fine
+
+-- the ceiling at the fine scale is at most the ceiling at a coarse scale, in fine units
+pub ceil_encloses : (m n n' : ℕ) (z z' : ℤ) → 0 < n → 0 < n' → (pos n *ℤ z') ≤ℤ (pos (m * n') *ℤ z) → ceil_over z' n' ≤ℤ (pos m *ℤ ceil_over z n)
+ceil_encloses m n n' z z' some some' h =
+    let f = ceil_over z n in
+    let k = mono_front (m * n') z (f *ℤ pos n) (ceil_above z n some) in
+    let p = simp parts at (to_parts (pos (m * n') *ℤ z) (pos (m * n') *ℤ (f *ℤ pos n)) k) in
+    let q = simp parts at (to_parts (pos n *ℤ z') (pos (m * n') *ℤ z) h) in
+    let fine = cancel_front n z' ((pos m *ℤ f) *ℤ pos n') some (by_parts (pos n *ℤ z') (pos n *ℤ ((pos m *ℤ f) *ℤ pos n')) (simp parts (omega arith))) in
+    ceil_least z' (pos m *ℤ f) n' some' fine
+
+-- the floor is at most the ceiling, also of a greater number
+pub floor_le_ceil : (z y : ℤ) (n : ℕ) → 0 < n → z ≤ℤ y → floor_over z n ≤ℤ ceil_over y n
+floor_le_ceil z y n some h =
+    let f = floor_over z n in
+    let g = ceil_over y n in
+    let p = simp parts at (to_parts (f *ℤ pos n) z (floor_below z n some)) in
+    let q = simp parts at (to_parts y (g *ℤ pos n) (ceil_above y n some)) in
+    let o = to_parts z y h in
+    cancel_front n f g some (by_parts (pos n *ℤ f) (pos n *ℤ g) (simp parts (omega arith)))
+
+-- the floor, by its two inequalities
+pub floor_is : (z k : ℤ) (n : ℕ) → 0 < n → (k *ℤ pos n) ≤ℤ z → z <ℤ (k *ℤ pos n +ℤ pos n) → k ≡ floor_over z n
+floor_is z k n some low high =
+    let f = floor_over z n in
+    let up_to = floor_greatest z k n some low in
+    let p = simp parts at (to_parts (f *ℤ pos n) z (floor_below z n some)) in
+    let q = to_parts_lt z (k *ℤ pos n +ℤ pos n) high in
+    let s = simp parts at (sum_is_lem (k *ℤ pos n) (pos n)) in
+    by_lt_z k f
+      (λ l.
+        let t = to_parts_lt k f l in
+        let more = mul-le-mul_left n (add-one-le t) in
+        absurd (omega arith))
+      (λ l. antisym_ℤ k f up_to l)
+
+-- the ceiling, by its two inequalities
+pub ceil_is : (z k : ℤ) (n : ℕ) → 0 < n → z ≤ℤ (k *ℤ pos n) → (k *ℤ pos n) <ℤ (z +ℤ pos n) → k ≡ ceil_over z n
+ceil_is z k n some high low =
+    let f = ceil_over z n in
+    let down_to = ceil_least z k n some high in
+    let p = simp parts at (to_parts z (f *ℤ pos n) (ceil_above z n some)) in
+    let q = simp parts at (to_parts_lt (k *ℤ pos n) (z +ℤ pos n) low) in
+    let s = sum_is_lem z (pos n) in
+    by_lt_z f k
+      (λ l.
+        let t = to_parts_lt f k l in
+        let more = mul-le-mul_left n (add-one-le t) in
+        absurd (omega arith))
+      (λ l. antisym_ℤ k f l down_to)
+
+-- the quotient of the code, whose remainder is not negative, is the floor
+pub div_euclid_is : (z d : ℤ) → pos 0 <ℤ d → int_div_euclid z d ≡ floor_over z (unsigned_abs d)
+unfolding floor_over
+div_euclid_is (pos a) (pos d) h = refl
+div_euclid_is (negsuc a) (pos d) h = refl
+div_euclid_is z (negsuc d) h = absurd (omega (arith, ints))
+
+-- the next number after the floor is above the quotient
+pub floor_near : (z : ℤ) (n : ℕ) → 0 < n → z <ℤ (floor_over z n *ℤ pos n +ℤ pos n)
+floor_near z n some =
+    let f = floor_over z n in
+    let s = simp parts at (sum_is_lem (f *ℤ pos n) (pos n)) in
+    let t = sum_is_lem f (pos 1) in
+    by_lt_z z (f *ℤ pos n +ℤ pos n) (λ l. l)
+      (λ l.
+        let p = to_parts (f *ℤ pos n +ℤ pos n) z l in
+        let ones = ap (λ x. x * n) t in
+        let more = floor_greatest z (f +ℤ pos 1) n some (by_parts ((f +ℤ pos 1) *ℤ pos n) z (simp parts (omega arith))) in
+        absurd (omega (arith, ints)))
+
+-- the ceiling where the floor is the quotient itself
+pub ceil_here : (f z : ℤ) (n : ℕ) → 0 < n → f ≡ floor_over z n → z ≤ℤ (f *ℤ pos n) → f ≡ ceil_over z n
+ceil_here f z n some e h =
+    let low : (f *ℤ pos n) ≤ℤ z = subst (λ x. (x *ℤ pos n) ≤ℤ z) (sym e) (floor_below z n some) in
+    ceil_is z f n some h (omega (arith, ints))
+
+-- the ceiling where the floor is below the quotient
+pub ceil_next : (f z : ℤ) (n : ℕ) → 0 < n → f ≡ floor_over z n → (f *ℤ pos n) <ℤ z → (f +ℤ pos 1) ≡ ceil_over z n
+ceil_next f z n some e h =
+    let near : z <ℤ (f *ℤ pos n +ℤ pos n) = subst (λ x. z <ℤ (x *ℤ pos n +ℤ pos n)) (sym e) (floor_near z n some) in
+    let t = sum_is_lem f (pos 1) in
+    let ones = ap (λ x. x * n) t in
+    let s = simp parts at (sum_is_lem (f *ℤ pos n) (pos n)) in
+    let u = sum_is_lem z (pos n) in
+    let p = to_parts_lt z (f *ℤ pos n +ℤ pos n) near in
+    let q = simp parts at (to_parts_lt (f *ℤ pos n) z h) in
+    ceil_is z (f +ℤ pos 1) n some
+      (by_parts z ((f +ℤ pos 1) *ℤ pos n) (simp parts (omega arith)))
+      (by_parts_lt ((f +ℤ pos 1) *ℤ pos n) (z +ℤ pos n) (simp parts (omega arith)))

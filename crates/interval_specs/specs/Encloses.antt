@@ -1,0 +1,10 @@
+-- Enclosing across scales.
+use Rattle.std.specs.Prelude.{ℕ, ℤ, pos, ◌*ℤ◌, ◌≤ℤ◌}
+use Rattle.interval_specs.specs.Ends.{Ends}
+
+-- a at some scale n encloses b at the scale m * n, whose units are m times finer. At m = 1 this is inclusion.
+-- An interval is a pair of ends in order, so b is in order
+pub record Encloses (m : ℕ) (a b : Ends) : Type 0 where
+  pub low : (pos m *ℤ a.lo) ≤ℤ b.lo
+  pub high : b.hi ≤ℤ (pos m *ℤ a.hi)
+  pub ordered : b.lo ≤ℤ b.hi

@@ -1,0 +1,24 @@
+-- An interval of whole numbers, by its two ends. At a scale n each end counts n-ths.
+use Rattle.std.specs.Prelude.{ℕ, ℤ, pos, neg_ℤ, ◌*◌, ◌^◌, ◌≤◌, ◌≤ℤ◌, max, unsigned_abs}
+
+-- the lower end and the upper end
+pub record Ends : Type 0 where
+  pub lo : ℤ
+  pub hi : ℤ
+
+-- the number one at scale n, which has no width
+unfoldable pub whole : ℕ → Ends
+whole n = record { lo = pos n; hi = pos n }
+
+-- the size of an interval: the greater of the sizes of its ends
+abbrev pub size_of : Ends → ℕ
+size_of a = max (unsigned_abs a.lo) (unsigned_abs a.hi)
+
+-- the ends stand in order
+abbrev pub IsOrdered : Ends → Type 0
+IsOrdered a = a.lo ≤ℤ a.hi
+
+-- what the code's type of intervals keeps: ends in order, and a size that leaves room in 128 bits
+pub record IsHeld (a : Ends) : Type 0 where
+  pub ordered : a.lo ≤ℤ a.hi
+  pub small : size_of a ≤ 10 ^ 25

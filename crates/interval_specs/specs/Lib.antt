@@ -1,0 +1,5 @@
+pub mod Ends
+pub mod Rounding
+pub mod Operations
+pub mod Encloses
+pub mod Laws
