@@ -1,0 +1,15 @@
+//! Decimal numbers as text: reading them with their first fault, and printing them exactly.
+#![tactic(auto)]
+
+mod body;
+mod fault;
+mod fixed;
+mod read;
+mod size;
+
+pub use fault::DecFault;
+pub use fixed::{put_fixed, put_pair};
+pub use read::read_decimal;
+
+#[cfg(test)]
+mod tests;
