@@ -2,12 +2,15 @@
 //! the reading of a whole file within a limit.
 #![tactic(auto)]
 
+mod calls;
 mod failed;
+mod mem_sink;
 mod shelf;
 mod sink;
 mod whole_file;
 
 pub use failed::Failed;
+pub use mem_sink::MemSink;
 pub use shelf::Shelf;
 pub use sink::Sink;
 pub use whole_file::{TakeFault, take_file};
