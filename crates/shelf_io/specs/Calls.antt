@@ -4,7 +4,7 @@ use Rattle.std.specs.List.{list_any}
 
 -- a count with one more, which stays at its last value
 abbrev pub one_more : ℕ → ℕ
-one_more count = min (count + 1) (2 ^ 64 - 1)
+one_more count = if nat_lt count (2 ^ 64 - 1) then count + 1 else count
 
 -- the next call was told to fail: calls are numbered from 1, and these are the numbers of those that fail
 abbrev pub is_told : List ℕ → ℕ → Bool

@@ -30,7 +30,8 @@ put_after s piece = record {
   room = s.room - put_size s piece;
   faults = if put_fails s piece then one_more s.faults else s.faults;
   calls = one_more s.calls;
-  failing = s.failing }
+  failing = s.failing;
+}
 
 -- the sink with one more call that fails
 abbrev pub failing_sink : ℕ → SinkState → SinkState

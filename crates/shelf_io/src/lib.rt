@@ -4,12 +4,16 @@
 
 mod calls;
 mod failed;
+mod mem_shelf;
 mod mem_sink;
+mod place;
 mod shelf;
 mod sink;
+mod stored;
 mod whole_file;
 
 pub use failed::Failed;
+pub use mem_shelf::MemShelf;
 pub use mem_sink::MemSink;
 pub use shelf::Shelf;
 pub use sink::Sink;

@@ -31,7 +31,12 @@ impl Model for MemSink {
     ghost Value = { SinkState };
 
     ghost view = { λ s. record {
-        taken = s.bytes.items; room = s.room; faults = s.faults; calls = s.calls; failing = s.failing.items } };
+      taken = s.bytes.items;
+      room = s.room;
+      faults = s.faults;
+      calls = s.calls;
+      failing = s.failing.items;
+    } };
 
     ghost invariant = { λ s. vec_len s.bytes + s.room ≤ vec_capacity s.bytes };
 }
