@@ -1,0 +1,3 @@
+/// The one error of the calls of a shelf or a sink: the call failed, and its count of faults tells it.
+#[derive(Clone, Copy, Debug, PartialEq, Eq)]
+pub struct Failed;
