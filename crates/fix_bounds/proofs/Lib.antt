@@ -1,3 +1,4 @@
 pub mod Passed
+pub mod Places
 pub mod Rounding
 pub mod Ratio

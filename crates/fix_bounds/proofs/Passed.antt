@@ -1,7 +1,7 @@
 -- A signed value that code computes and passes on is written as bits and read again: here is what it is then.
-use Rattle.std.proofs.Common.{ℤ, ◌≡◌, ◌<◌, ◌^◌, ◌∙◌}
-use Rattle.std.proofs.lemmas.Int.{to_z-of_z}
-use Rattle.std.specs.Int.{w128}
+use Rattle.std.proofs.Common.{ℕ, ℤ, ◌≡◌, ◌<◌, ◌≤◌, ◌^◌, ◌∙◌, ap, subst, sym, ◌*ℤ◌, ◌+ℤ◌, ◌-ℤ◌, FitsSigned, unsigned_abs, lt_of_le_of_lt}
+use Rattle.std.proofs.lemmas.Int.{to_z-of_z, fits_signed_from_abs}
+use Rattle.std.specs.Int.{w64, w128, int_min, int_max}
 use mir.Val.{to_z, of_z}
 use lib.Signed.{mag}
 
@@ -13,5 +13,35 @@ passed z = to_z w128 (of_z w128 z)
 pub passed_is : (z : ℤ) → mag z < 2 ^ 127 → passed z ≡ z
 passed_is z h = to_z-of_z w128 z (record { sfits = h })
 
+-- a call's result that is known to be z
 pub read : (r z : ℤ) → mag r < 2 ^ 127 → r ≡ z → passed r ≡ z
 read r z h e = passed_is r h ∙ e
+
+-- a value whose size is known to leave room
+pub fits : (z : ℤ) (k : ℕ) → unsigned_abs z ≤ k → k < 2 ^ 127 → FitsSigned w128 z
+fits z k h s = fits_signed_from_abs w128 z (lt_of_le_of_lt h s)
+
+-- the sum, the difference and the product of two known values, passed on
+pub read_sum : (r s x y : ℤ) (k : ℕ) → r ≡ x → s ≡ y → unsigned_abs (x +ℤ y) ≤ k → k < 2 ^ 127 → passed (r +ℤ s) ≡ x +ℤ y
+read_sum r s x y k e f h room = ap passed (λ i. e i +ℤ f i) ∙ to_z-of_z w128 (x +ℤ y) (fits (x +ℤ y) k h room)
+
+pub read_difference : (r s x y : ℤ) (k : ℕ) → r ≡ x → s ≡ y → unsigned_abs (x -ℤ y) ≤ k → k < 2 ^ 127 → passed (r -ℤ s) ≡ x -ℤ y
+read_difference r s x y k e f h room = ap passed (λ i. e i -ℤ f i) ∙ to_z-of_z w128 (x -ℤ y) (fits (x -ℤ y) k h room)
+
+pub read_product : (r s x y : ℤ) (k : ℕ) → r ≡ x → s ≡ y → unsigned_abs (x *ℤ y) ≤ k → k < 2 ^ 127 → passed (r *ℤ s) ≡ x *ℤ y
+read_product r s x y k e f h room = ap passed (λ i. e i *ℤ f i) ∙ to_z-of_z w128 (x *ℤ y) (fits (x *ℤ y) k h room)
+
+-- the same product has room
+pub product_fits : (r s x y : ℤ) (k : ℕ) → r ≡ x → s ≡ y → unsigned_abs (x *ℤ y) ≤ k → k < 2 ^ 127 → FitsSigned w128 (r *ℤ s)
+product_fits r s x y k e f h room = subst (λ z. FitsSigned w128 z) (sym (λ i. e i *ℤ f i)) (fits (x *ℤ y) k h room)
+
+-- a 64-bit number, widened
+pub widened : (r k : ℤ) → mag r < 2 ^ 127 → FitsSigned w64 k → r ≡ to_z w64 (of_z w64 k) → passed r ≡ k
+widened r k h f e = read r k h (e ∙ to_z-of_z w64 k f)
+
+-- the lesser and the greater of two known values
+pub read_min : (m r s x y : ℤ) → mag m < 2 ^ 127 → m ≡ int_min r s → r ≡ x → s ≡ y → passed m ≡ int_min x y
+read_min m r s x y h e p q = read m (int_min x y) h (e ∙ (λ i. int_min (p i) (q i)))
+
+pub read_max : (m r s x y : ℤ) → mag m < 2 ^ 127 → m ≡ int_max r s → r ≡ x → s ≡ y → passed m ≡ int_max x y
+read_max m r s x y h e p q = read m (int_max x y) h (e ∙ (λ i. int_max (p i) (q i)))

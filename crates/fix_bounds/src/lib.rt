@@ -4,8 +4,10 @@
 
 mod interval;
 pub mod laws;
+mod ratios;
 mod rounds;
 mod scale;
 
 pub use interval::Iv;
+pub use ratios::Ratios;
 pub use scale::{Base, Quick, Scale};

@@ -2,4 +2,12 @@ pub mod Order
 pub mod Rounds
 pub mod Sizes
 pub mod Held
+pub mod Enclosing
 pub mod RatioLaw
+pub mod SumLaws
+pub mod ChoiceLaws
+pub mod ProductLaw
+pub mod QuotientLaw
+pub mod SizeLaws
+pub mod Laws
+pub mod Ranges

@@ -1,8 +1,11 @@
 -- The ring and the order of the whole numbers, for products that `omega` alone does not open.
-use Rattle.std.proofs.Common.{ℕ, ℤ, pos, negsuc, ◌≡◌, ◌+◌, ◌*◌, ◌≤◌, ◌<◌, ◌+ℤ◌, ◌-ℤ◌, ◌*ℤ◌, neg_ℤ, ◌≤ℤ◌, ◌<ℤ◌, arith, ap, refl, unsigned_abs, mul-le-mul_left}
-use native.Mathlib.Nat.{le_of_mul-le-mul_left}
+use Rattle.std.proofs.Common.{ℕ, ℤ, pos, negsuc, suc, ◌≡◌, true, false, cond, int_lt, ◌+◌, ◌*◌, ◌≤◌, ◌<◌, ◌+ℤ◌, ◌-ℤ◌, ◌*ℤ◌, neg_ℤ, ◌≤ℤ◌, ◌<ℤ◌, unsigned_abs, refl, ap, subst, arith, mul-le-mul_left, mul-pos, sym}
+use Rattle.std.proofs.Math.Nat.{le_of_mul-le-mul_left}
 use borrow.Author.Differences.{up, down, le_out, lt_out, at_most_in, below_in, same_in, product_is, neg_is, sum_is_lem}
-use Rattle.std.proofs.lemmas.Int.{ints}
+use Rattle.std.proofs.lemmas.Int.{ints, clamps}
+use Rattle.std.specs.Int.{int_min, int_max}
+use lib.IntN.{*ℤ_comm}
+use Rattle.interval_specs.specs.Operations.{least_of_four, greatest_of_four}
 
 pub up-mul : (a b : ℤ) → up (a *ℤ b) ≡ up a * up b + down a * down b
 up-mul a b = (product_is a b).0
@@ -67,3 +70,149 @@ size_is (negsuc n) h = absurd (omega (arith, ints))
 pub size_positive : (n : ℤ) → pos 0 <ℤ n → 0 < unsigned_abs n
 size_positive (pos n) h = omega (arith, ints)
 size_positive (negsuc n) h = omega (arith, ints)
+
+-- ---- sums under a product
+
+pub mul-add_ℤ : (a b c : ℤ) → a *ℤ (b +ℤ c) ≡ a *ℤ b +ℤ a *ℤ c
+mul-add_ℤ a b c =
+    let s = sum_is_lem b c in
+    let front = ap (λ t. up a * t) s in
+    let back = ap (λ t. down a * t) s in
+    let t = simp parts at (sum_is_lem (a *ℤ b) (a *ℤ c)) in
+    same_in (a *ℤ (b +ℤ c)) (a *ℤ b +ℤ a *ℤ c) (simp parts (omega arith))
+
+pub mul-neg_ℤ : (a b : ℤ) → a *ℤ neg_ℤ b ≡ neg_ℤ (a *ℤ b)
+mul-neg_ℤ a b = same_in (a *ℤ neg_ℤ b) (neg_ℤ (a *ℤ b)) (simp parts (omega arith))
+
+-- two factors in front change places
+pub mul_swap_ℤ : (a b c : ℤ) → a *ℤ (b *ℤ c) ≡ b *ℤ (a *ℤ c)
+mul_swap_ℤ a b c = same_in (a *ℤ (b *ℤ c)) (b *ℤ (a *ℤ c)) (simp parts (omega arith))
+
+-- ---- the lesser and the greater of two numbers
+
+-- what holds of both holds of the greater, and of the lesser
+pub either_max : (P : ℤ → Type 0) (x y : ℤ) → P x → P y → P (int_max x y)
+either_max P x y p q = elim (int_lt y x) as (λ t. P (cond t x y)) [ true ↦ p | false ↦ q ]
+
+pub either_min : (P : ℤ → Type 0) (x y : ℤ) → P x → P y → P (int_min x y)
+either_min P x y p q = elim (int_lt y x) as (λ t. P (cond t y x)) [ true ↦ q | false ↦ p ]
+
+pub max_left : (x y : ℤ) → x ≤ℤ int_max x y
+max_left x y = omega (arith, ints, clamps)
+
+pub max_right : (x y : ℤ) → y ≤ℤ int_max x y
+max_right x y = omega (arith, ints, clamps)
+
+pub min_left : (x y : ℤ) → int_min x y ≤ℤ x
+min_left x y = omega (arith, ints, clamps)
+
+pub min_right : (x y : ℤ) → int_min x y ≤ℤ y
+min_right x y = omega (arith, ints, clamps)
+
+-- the least and the greatest of four
+pub least_first : (p q r s : ℤ) → least_of_four p q r s ≤ℤ p
+least_first p q r s = trans_ℤ (least_of_four p q r s) (int_min p q) p (min_left (int_min p q) (int_min r s)) (min_left p q)
+
+pub least_second : (p q r s : ℤ) → least_of_four p q r s ≤ℤ q
+least_second p q r s = trans_ℤ (least_of_four p q r s) (int_min p q) q (min_left (int_min p q) (int_min r s)) (min_right p q)
+
+pub least_third : (p q r s : ℤ) → least_of_four p q r s ≤ℤ r
+least_third p q r s = trans_ℤ (least_of_four p q r s) (int_min r s) r (min_right (int_min p q) (int_min r s)) (min_left r s)
+
+pub least_fourth : (p q r s : ℤ) → least_of_four p q r s ≤ℤ s
+least_fourth p q r s = trans_ℤ (least_of_four p q r s) (int_min r s) s (min_right (int_min p q) (int_min r s)) (min_right r s)
+
+pub greatest_first : (p q r s : ℤ) → p ≤ℤ greatest_of_four p q r s
+greatest_first p q r s = trans_ℤ p (int_max p q) (greatest_of_four p q r s) (max_left p q) (max_left (int_max p q) (int_max r s))
+
+pub greatest_second : (p q r s : ℤ) → q ≤ℤ greatest_of_four p q r s
+greatest_second p q r s = trans_ℤ q (int_max p q) (greatest_of_four p q r s) (max_right p q) (max_left (int_max p q) (int_max r s))
+
+pub greatest_third : (p q r s : ℤ) → r ≤ℤ greatest_of_four p q r s
+greatest_third p q r s = trans_ℤ r (int_max r s) (greatest_of_four p q r s) (max_left r s) (max_right (int_max p q) (int_max r s))
+
+pub greatest_fourth : (p q r s : ℤ) → s ≤ℤ greatest_of_four p q r s
+greatest_fourth p q r s = trans_ℤ s (int_max r s) (greatest_of_four p q r s) (max_right r s) (max_right (int_max p q) (int_max r s))
+
+-- what holds of all four holds of the least and of the greatest
+pub any_least : (P : ℤ → Type 0) (p q r s : ℤ) → P p → P q → P r → P s → P (least_of_four p q r s)
+any_least P p q r s a b c d = either_min P (int_min p q) (int_min r s) (either_min P p q a b) (either_min P r s c d)
+
+pub any_greatest : (P : ℤ → Type 0) (p q r s : ℤ) → P p → P q → P r → P s → P (greatest_of_four p q r s)
+any_greatest P p q r s a b c d = either_max P (int_max p q) (int_max r s) (either_max P p q a b) (either_max P r s c d)
+
+-- ---- a number between two others, times a factor
+
+-- a bound that is at most both end products is at most each product between
+pub between_low : (b k l x h : ℤ) → l ≤ℤ x → x ≤ℤ h → b ≤ℤ (k *ℤ l) → b ≤ℤ (k *ℤ h) → b ≤ℤ (k *ℤ x)
+between_low b (pos k) l x h p q u v = trans_ℤ b (pos k *ℤ l) (pos k *ℤ x) u (mono_front k l x p)
+between_low b (negsuc k) l x h p q u v =
+    let r = mul-le-mul_left (suc k) (to_parts x h q) in
+    let w = simp parts at (to_parts b (negsuc k *ℤ h) v) in
+    by_parts b (negsuc k *ℤ x) (simp parts (omega arith))
+
+-- a bound that is at least both end products is at least each product between
+pub between_high : (b k l x h : ℤ) → l ≤ℤ x → x ≤ℤ h → (k *ℤ l) ≤ℤ b → (k *ℤ h) ≤ℤ b → (k *ℤ x) ≤ℤ b
+between_high b (pos k) l x h p q u v = trans_ℤ (pos k *ℤ x) (pos k *ℤ h) b (mono_front k x h q) v
+between_high b (negsuc k) l x h p q u v =
+    let r = mul-le-mul_left (suc k) (to_parts l x p) in
+    let w = simp parts at (to_parts (negsuc k *ℤ l) b u) in
+    by_parts (negsuc k *ℤ x) b (simp parts (omega arith))
+
+-- the same for two numbers, by the four corners
+pub corner_low : (b k x h l y t : ℤ) → k ≤ℤ x → x ≤ℤ h → l ≤ℤ y → y ≤ℤ t → b ≤ℤ (k *ℤ l) → b ≤ℤ (k *ℤ t) → b ≤ℤ (h *ℤ l) → b ≤ℤ (h *ℤ t) → b ≤ℤ (x *ℤ y)
+corner_low b k x h l y t p q r s c d e f =
+    let near : b ≤ℤ (y *ℤ k) = subst (λ z. b ≤ℤ z) (*ℤ_comm k y) (between_low b k l y t r s c d) in
+    let far : b ≤ℤ (y *ℤ h) = subst (λ z. b ≤ℤ z) (*ℤ_comm h y) (between_low b h l y t r s e f) in
+    subst (λ z. b ≤ℤ z) (*ℤ_comm y x) (between_low b y k x h p q near far)
+
+pub corner_high : (b k x h l y t : ℤ) → k ≤ℤ x → x ≤ℤ h → l ≤ℤ y → y ≤ℤ t → (k *ℤ l) ≤ℤ b → (k *ℤ t) ≤ℤ b → (h *ℤ l) ≤ℤ b → (h *ℤ t) ≤ℤ b → (x *ℤ y) ≤ℤ b
+corner_high b k x h l y t p q r s c d e f =
+    let near : (y *ℤ k) ≤ℤ b = subst (λ z. z ≤ℤ b) (*ℤ_comm k y) (between_high b k l y t r s c d) in
+    let far : (y *ℤ h) ≤ℤ b = subst (λ z. z ≤ℤ b) (*ℤ_comm h y) (between_high b h l y t r s e f) in
+    subst (λ z. z ≤ℤ b) (*ℤ_comm y x) (between_high b y k x h p q near far)
+
+-- a number above 0 is some natural number, and keeps the order as a factor
+pub mono_by : (c a b : ℤ) → pos 0 <ℤ c → a ≤ℤ b → (c *ℤ a) ≤ℤ (c *ℤ b)
+mono_by c a b some h = subst (λ z. (z *ℤ a) ≤ℤ (z *ℤ b)) (sym (size_is c some)) (mono_front (unsigned_abs c) a b h)
+
+-- a greater factor of a number that is not negative, and of one that is negative
+pub wider : (x a b : ℤ) → pos 0 ≤ℤ x → a ≤ℤ b → (a *ℤ x) ≤ℤ (b *ℤ x)
+wider (pos x) a b s h =
+    let p = mul-le-mul_left x (to_parts a b h) in
+    by_parts (a *ℤ pos x) (b *ℤ pos x) (simp parts (omega arith))
+wider (negsuc x) a b s h = absurd (omega (arith, ints))
+
+pub narrower : (x a b : ℤ) → x <ℤ pos 0 → a ≤ℤ b → (b *ℤ x) ≤ℤ (a *ℤ x)
+narrower (negsuc x) a b s h =
+    let p = mul-le-mul_left (suc x) (to_parts a b h) in
+    by_parts (b *ℤ negsuc x) (a *ℤ negsuc x) (simp parts (omega arith))
+narrower (pos x) a b s h = absurd (omega (arith, ints))
+
+-- m times a number on one side of 0 stays there
+pub times_positive : (m : ℕ) (c y : ℤ) → 0 < m → pos 0 <ℤ c → (pos m *ℤ c) ≤ℤ y → pos 0 <ℤ y
+times_positive m (pos c) y some p h =
+    let s : 0 < c = omega (arith, ints) in
+    let k = mul-pos some s in
+    let q = simp parts at (to_parts (pos m *ℤ pos c) y h) in
+    by_parts_lt (pos 0) y (omega arith)
+times_positive m (negsuc c) y some p h = absurd (omega (arith, ints))
+
+pub times_negative : (m : ℕ) (c y : ℤ) → 0 < m → c <ℤ pos 0 → y ≤ℤ (pos m *ℤ c) → y <ℤ pos 0
+times_negative m (pos c) y some p h = absurd (omega (arith, ints))
+times_negative m (negsuc c) y some p h =
+    let k = mul-le-mul_left (suc c) some in
+    let q = simp parts at (to_parts y (pos m *ℤ negsuc c) h) in
+    by_parts_lt y (pos 0) (omega arith)
+
+pub le_pos : (n : ℕ) → pos 0 ≤ℤ pos n
+le_pos n = omega (arith, ints)
+
+-- each part of a number is at most its size
+pub up_small : (z : ℤ) → up z ≤ unsigned_abs z
+up_small (pos n) = omega arith
+up_small (negsuc n) = omega arith
+
+pub down_small : (z : ℤ) → down z ≤ unsigned_abs z
+down_small (pos n) = omega arith
+down_small (negsuc n) = omega arith

@@ -3,3 +3,4 @@ pub mod Rounding
 pub mod Operations
 pub mod Encloses
 pub mod Laws
+pub mod Ranges

@@ -4,7 +4,8 @@ use Rattle.std.specs.Int.{w128}
 use Rattle.interval_specs.specs.Rounding.{floor_over, ceil_over}
 use Rattle.interval_specs.specs.Operations.{ratio_at}
 use Rattle.interval_specs.proofs.Order.{size_positive}
-use Rattle.interval_specs.proofs.Held.{is_ends, held_by, ratio_held}
+use Rattle.interval_specs.proofs.Held.{is_ends, held_by}
+use Rattle.interval_specs.proofs.Ranges.{held, ratio_sized}
 use Rattle.fix_bounds.proofs.Passed.{passed, read}
 use Rattle.fix_bounds.proofs.Ratio.{units_is}
 use Rattle.fix_bounds.proofs.interval.Iv.of_ratio.Given as given
@@ -28,7 +29,7 @@ pub of_ends-requires : goal.of_ends-requires
 unfolding ratio_at
 of_ends-requires g c =
     held_by _ _ (ratio_at g.S.Scale.unit c.args.p (unsigned_abs c.args.q)) (low g c) (high g c)
-    (ratio_held g.S.Scale.unit c.args.p (unsigned_abs c.args.q) (size_positive c.args.q c.requires.positive) c.requires.size)
+    (held _ (ratio_sized g.S.Scale.unit (10 ^ 25) c.args.p (unsigned_abs c.args.q) (size_positive c.args.q c.requires.positive) c.requires.size))
 
 pub returns-clause-is : goal.returns-clause-is
 unfolding ratio_at

@@ -1,0 +1,135 @@
+-- The laws of a size and of a square.
+use Rattle.std.proofs.Common.{ℕ, ℤ, pos, negsuc, ◌≡◌, Bool, true, false, ◌&&◌, ◌+◌, ◌*◌, ◌≤◌, ◌<◌, ◌*ℤ◌, ◌≤ℤ◌, ◌<ℤ◌, unsigned_abs, min, max, int_le, if◌then◌else◌, arith, subst, sym, mul-pos, mul-le-mul, mul-le-mul_left, ap, refl}
+use Rattle.std.proofs.lemmas.Int.{ints, by_lt_z}
+use borrow.Author.Differences.{up, down}
+use Rattle.interval_specs.specs.Ends.{Ends, size_of}
+use Rattle.interval_specs.specs.Encloses.{Encloses}
+use Rattle.interval_specs.specs.Operations.{absolute_of, square_at, least_size, holds_zero}
+use Rattle.interval_specs.specs.Laws.{AbsoluteEncloses, SquareEncloses}
+use Rattle.interval_specs.proofs.Order.{up_small, down_small, parts, by_parts, to_parts, trans_ℤ, times_positive, times_negative}
+use Rattle.interval_specs.proofs.Sizes.{by_size}
+use Rattle.interval_specs.proofs.ProductLaw.{squared_low, squared_high}
+use Rattle.interval_specs.proofs.Rounds.{floor_encloses, ceil_encloses, floor_le_ceil}
+
+-- the least size by its cases: an interval above 0, below 0, or one that holds it
+pub least_size_above : (a : Ends) → pos 0 <ℤ a.lo → least_size a ≡ min (unsigned_abs a.lo) (unsigned_abs a.hi)
+least_size_above a h = by (int_le a.lo (pos 0)) refl
+  where
+    by : (t : Bool) → int_le a.lo (pos 0) ≡ t → (if t && int_le (pos 0) a.hi then 0 else (min (unsigned_abs a.lo) (unsigned_abs a.hi))) ≡ min (unsigned_abs a.lo) (unsigned_abs a.hi)
+    by true e = absurd (omega (arith, ints))
+    by false e = refl
+
+pub least_size_below : (a : Ends) → a.hi <ℤ pos 0 → least_size a ≡ min (unsigned_abs a.lo) (unsigned_abs a.hi)
+least_size_below a h = by (int_le a.lo (pos 0)) (int_le (pos 0) a.hi) refl
+  where
+    by : (s t : Bool) → int_le (pos 0) a.hi ≡ t → (if s && t then 0 else (min (unsigned_abs a.lo) (unsigned_abs a.hi))) ≡ min (unsigned_abs a.lo) (unsigned_abs a.hi)
+    by s true e = absurd (omega (arith, ints))
+    by true false e = refl
+    by false false e = refl
+
+pub least_size_around : (a : Ends) → a.lo ≤ℤ pos 0 → pos 0 ≤ℤ a.hi → least_size a ≡ 0
+least_size_around a h k = by (int_le a.lo (pos 0)) (int_le (pos 0) a.hi) refl refl
+  where
+    by : (s t : Bool) → int_le a.lo (pos 0) ≡ s → int_le (pos 0) a.hi ≡ t → (if s && t then 0 else (min (unsigned_abs a.lo) (unsigned_abs a.hi))) ≡ 0
+    by true true e f = refl
+    by false t e f = absurd (omega (arith, ints))
+    by true false e f = absurd (omega (arith, ints))
+
+-- the least size is at most each end's size
+pub least_size_small : (a : Ends) → least_size a ≤ size_of a
+least_size_small a = by (holds_zero a)
+  where
+    by : (t : Bool) → (if t then 0 else (min (unsigned_abs a.lo) (unsigned_abs a.hi))) ≤ max (unsigned_abs a.lo) (unsigned_abs a.hi)
+    by true = omega arith
+    by false = omega arith
+
+-- sizes at the finer scale, of numbers on one side of 0
+scaled_above : (m : ℕ) (x y : ℤ) → pos 0 ≤ℤ x → (pos m *ℤ x) ≤ℤ y → m * unsigned_abs x ≤ unsigned_abs y
+scaled_above m (pos x) (pos y) s h = let p = simp parts at (to_parts (pos m *ℤ pos x) (pos y) h) in omega arith
+scaled_above m (pos x) (negsuc y) s h = let p = simp parts at (to_parts (pos m *ℤ pos x) (negsuc y) h) in absurd (omega arith)
+scaled_above m (negsuc x) y s h = absurd (omega (arith, ints))
+
+scaled_below : (m : ℕ) (x y : ℤ) → x <ℤ pos 0 → y ≤ℤ (pos m *ℤ x) → m * unsigned_abs x ≤ unsigned_abs y
+scaled_below m (negsuc x) (negsuc y) s h = let p = simp parts at (to_parts (negsuc y) (pos m *ℤ negsuc x) h) in omega arith
+scaled_below m (negsuc x) (pos y) s h = let p = simp parts at (to_parts (pos y) (pos m *ℤ negsuc x) h) in omega arith
+scaled_below m (pos x) y s h = absurd (omega (arith, ints))
+
+-- the size of a number within
+within_size : (m : ℕ) (a : Ends) (x : ℤ) → (pos m *ℤ a.lo) ≤ℤ x → x ≤ℤ (pos m *ℤ a.hi) → unsigned_abs x ≤ m * size_of a
+within_size m a x h k =
+    let l : down a.lo ≤ size_of a = omega (arith, down_small a.lo) in
+    let u : up a.hi ≤ size_of a = omega (arith, up_small a.hi) in
+    let p = mul-le-mul_left m l in
+    let q = mul-le-mul_left m u in
+    let r = simp parts at (to_parts (pos m *ℤ a.lo) x h) in
+    let s = simp parts at (to_parts x (pos m *ℤ a.hi) k) in
+    by_size x (m * size_of a) (omega arith) (omega arith)
+
+-- the least size grows at least m times
+pub least_size_finer : (m : ℕ) (a a' : Ends) → 0 < m → Encloses m a a' → m * least_size a ≤ least_size a'
+least_size_finer m a a' finer p =
+    by_lt_z (pos 0) a.lo above
+      (λ l. by_lt_z a.hi (pos 0) below (λ h. let e = ap (λ (t : ℕ). m * t) (least_size_around a l h) in omega arith))
+  where
+    above : pos 0 <ℤ a.lo → m * least_size a ≤ least_size a'
+    above s =
+        let o = trans_ℤ (pos m *ℤ a.lo) a'.lo a'.hi p.low p.ordered in
+        let z : pos 0 ≤ℤ a.lo = omega (arith, ints) in
+        let low = times_positive m a.lo a'.lo finer s p.low in
+        let e = ap (λ (t : ℕ). m * t) (least_size_above a s) in
+        let f = least_size_above a' low in
+        let u = scaled_above m a.lo a'.lo z p.low in
+        let v = scaled_above m a.lo a'.hi z o in
+        let less : min (unsigned_abs a.lo) (unsigned_abs a.hi) ≤ unsigned_abs a.lo = omega arith in
+        let k = mul-le-mul_left m less in
+        omega arith
+    below : a.hi <ℤ pos 0 → m * least_size a ≤ least_size a'
+    below s =
+        let o = trans_ℤ a'.lo a'.hi (pos m *ℤ a.hi) p.ordered p.high in
+        let high = times_negative m a.hi a'.hi finer s p.high in
+        let e = ap (λ (t : ℕ). m * t) (least_size_below a s) in
+        let f = least_size_below a' high in
+        let u = scaled_below m a.hi a'.hi s p.high in
+        let v = scaled_below m a.hi a'.lo s o in
+        let less : min (unsigned_abs a.lo) (unsigned_abs a.hi) ≤ unsigned_abs a.hi = omega arith in
+        let k = mul-le-mul_left m less in
+        omega arith
+
+-- the size grows at most m times
+pub size_finer : (m : ℕ) (a a' : Ends) → Encloses m a a' → size_of a' ≤ m * size_of a
+size_finer m a a' p =
+    let l = within_size m a a'.lo p.low (trans_ℤ a'.lo a'.hi (pos m *ℤ a.hi) p.ordered p.high) in
+    let h = within_size m a a'.hi (trans_ℤ (pos m *ℤ a.lo) a'.lo a'.hi p.low p.ordered) p.high in
+    omega arith
+
+pub absolute_encloses : AbsoluteEncloses
+unfolding absolute_of
+absolute_encloses m a a' finer p =
+    let l = least_size_finer m a a' finer p in
+    let h = size_finer m a a' p in
+    let o = least_size_small a' in
+    record { low = omega (arith, ints); high = omega (arith, ints); ordered = omega (arith, ints) }
+
+-- the square of a number in finer units
+square_is : (m x : ℕ) → (m * x) * (m * x) ≡ m * m * (x * x)
+square_is m x = omega arith
+
+pub square_encloses : SquareEncloses
+unfolding square_at
+square_encloses n m a a' some finer p =
+    let fine : 0 < m * n = mul-pos finer some in
+    let x = least_size a in
+    let x' = least_size a' in
+    let y = size_of a in
+    let y' = size_of a' in
+    let l = least_size_finer m a a' finer p in
+    let h = size_finer m a a' p in
+    let o = least_size_small a' in
+    let low : m * m * (x * x) ≤ x' * x' = subst (λ z. z ≤ x' * x') (square_is m x) (mul-le-mul l l) in
+    let high : y' * y' ≤ m * m * (y * y) = subst (λ z. y' * y' ≤ z) (square_is m y) (mul-le-mul h h) in
+    let across : x' * x' ≤ y' * y' = mul-le-mul o o in
+    record {
+      low = floor_encloses m n (m * n) (pos (x * x)) (pos (x' * x')) some fine (squared_low n m (pos (x * x)) (pos (x' * x')) (omega (arith, ints)));
+      high = ceil_encloses m n (m * n) (pos (y * y)) (pos (y' * y')) some fine (squared_high n m (pos (y * y)) (pos (y' * y')) (omega (arith, ints)));
+      ordered = floor_le_ceil (pos (x' * x')) (pos (y' * y')) (m * n) fine (omega (arith, ints))
+    }

@@ -1,0 +1,14 @@
+-- Ranges of intervals, for the conditions of calls.
+use Rattle.std.specs.Prelude.{ℕ, ℤ, pos, ◌≤◌, ◌≤ℤ◌}
+use Rattle.interval_specs.specs.Ends.{Ends, size_of}
+
+-- a is in order and no larger than k
+pub record Sized (k : ℕ) (a : Ends) : Type 0 where
+  pub ordered : a.lo ≤ℤ a.hi
+  pub small : size_of a ≤ k
+
+-- a is in order and lies from 0 to k
+pub record UpTo (k : ℕ) (a : Ends) : Type 0 where
+  pub not_negative : pos 0 ≤ℤ a.lo
+  pub ordered : a.lo ≤ℤ a.hi
+  pub below : a.hi ≤ℤ pos k

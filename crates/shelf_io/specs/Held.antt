@@ -1,0 +1,45 @@
+-- the files of a shelf in memory, one after the other
+use Rattle.std.specs.Prelude.{◌+◌, ◌≤◌, ℕ, length, Option, Some, None, List, [], ◌∷◌, if◌then◌else◌, option_map}
+use Rattle.std.specs.List.{All}
+use Rattle.std.specs.Str.{bytes_eq}
+use Rattle.shelf_io.specs.Calls.{one_more}
+
+-- a file: its name and bytes, how many bytes its buffer was made for, and its counts of failed reads and writes
+pub record Held : Type 0 where
+  pub name : List ℕ
+  pub bytes : List ℕ
+  pub reserved : ℕ
+  pub reads : ℕ
+  pub writes : ℕ
+
+-- the file under the name
+abbrev pub held_under : List ℕ → List Held → Option Held
+held_under name [] = None
+held_under name (file ∷ files) = if bytes_eq file.name name then Some file else held_under name files
+
+-- where the file under the name stands
+abbrev pub place_of : List ℕ → List Held → Option ℕ
+place_of name [] = None
+place_of name (file ∷ files) = if bytes_eq file.name name then Some 0 else option_map (λ at. at + 1) (place_of name files)
+
+-- the files with that under the name changed
+abbrev pub change_under : List ℕ → (Held → Held) → List Held → List Held
+change_under name change [] = []
+change_under name change (file ∷ files) =
+    if bytes_eq file.name name then change file ∷ files else file ∷ change_under name change files
+
+-- a file with these bytes in a new buffer, which was made for so many bytes more
+abbrev pub with_bytes : List ℕ → ℕ → Held → Held
+with_bytes bytes room file = record file { bytes = bytes; reserved = length bytes + room }
+
+-- a file with one more failed read
+abbrev pub with_failed_read : Held → Held
+with_failed_read file = record file { reads = one_more file.reads }
+
+-- each file has memory for so many bytes more
+abbrev pub HaveRoom : ℕ → List Held → Type 0
+HaveRoom room files = All (λ file. length file.bytes + room ≤ file.reserved) files
+
+-- each place has memory for so many bytes
+abbrev pub PlacesHaveRoom : ℕ → List ℕ → Type 0
+PlacesHaveRoom room places = All (λ reserved. room ≤ reserved) places

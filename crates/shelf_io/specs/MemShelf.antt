@@ -1,0 +1,73 @@
+-- a shelf in memory, and what its calls make of it
+use Rattle.std.specs.Prelude.{◌≡◌, ◌≤◌, ◌<◌, ◌+◌, ◌-◌, ◌^◌, ◌||◌, not, ℕ, Bool, Option, Some, None, List, [], ◌∷◌, ◌++◌, length, min, if◌then◌else◌, option_map, is_some, IsSome}
+use Rattle.std.specs.Option.{option_map_or}
+use Rattle.shelf_io.specs.Calls.{one_more, is_told}
+use Rattle.shelf_io.specs.Contents.{Contents}
+use Rattle.shelf_io.specs.Held.{Held, held_under, change_under, with_bytes, with_failed_read}
+
+-- the files, the counts that names which are not held share, the room for appended bytes, the places for new names,
+-- how many bytes a read gives at most, how many calls there were, and the numbers of the calls that fail
+pub record ShelfState : Type 0 where
+  pub files : List Held
+  pub shared_reads : ℕ
+  pub shared_writes : ℕ
+  pub room : ℕ
+  pub places : ℕ
+  pub most : ℕ
+  pub calls : ℕ
+  pub failing : List ℕ
+
+-- a shelf that holds no file
+abbrev pub fresh_shelf : ℕ → ℕ → ShelfState
+fresh_shelf room places =
+    record { files = []; shared_reads = 0; shared_writes = 0; room = room; places = places; most = 2 ^ 64 - 1; calls = 0; failing = [] }
+
+-- the name is held
+abbrev pub is_held : ShelfState → List ℕ → Bool
+is_held s name = is_some (held_under name s.files)
+
+-- the bytes under each name, and the room
+abbrev pub shelf_contents : ShelfState → Contents
+shelf_contents s = record { file = λ name. option_map (λ file. file.bytes) (held_under name s.files); room = s.room }
+
+-- how many reads of the name failed
+abbrev pub shelf_reads : ShelfState → List ℕ → ℕ
+shelf_reads s name = option_map_or (λ file. file.reads) (held_under name s.files) s.shared_reads
+
+-- how many writes of the name failed
+abbrev pub shelf_writes : ShelfState → List ℕ → ℕ
+shelf_writes s name = option_map_or (λ file. file.writes) (held_under name s.files) s.shared_writes
+
+-- the shelf was told of no failure and holds the name
+abbrev pub ReadsWell : ShelfState → List ℕ → Type 0
+ReadsWell s name = (s.failing ≡ []) × IsSome (held_under name s.files)
+
+-- the shelf was told of no failure, holds the name or has a place for it, and has room for so many bytes
+abbrev pub WritesWell : ShelfState → List ℕ → ℕ → Type 0
+WritesWell s name bytes = (s.failing ≡ []) × (0 < s.places + (if is_held s name then 1 else 0)) × (bytes ≤ s.room)
+
+-- the shelf with these bytes under the name, which keeps its counts
+abbrev pub shelf_with : List ℕ → List ℕ → ShelfState → ShelfState
+shelf_with name bytes s = record s {
+  files =
+      if is_held s name
+      then change_under name (with_bytes bytes s.room) s.files
+      else s.files ++ record { name = name; bytes = bytes; reserved = length bytes + s.room; reads = s.shared_reads; writes = s.shared_writes } ∷ [];
+}
+
+-- the next call was told to fail, or the name is not held
+abbrev pub read_fails : ShelfState → List ℕ → Bool
+read_fails s name = is_told s.failing s.calls || not (is_held s name)
+
+-- the shelf after the next call, a read of the name
+abbrev pub read_after : ShelfState → List ℕ → ShelfState
+read_after s name = record s {
+  files = if read_fails s name then change_under name with_failed_read s.files else s.files;
+  shared_reads = if is_held s name then s.shared_reads else one_more s.shared_reads;
+  calls = one_more s.calls;
+}
+
+-- how many bytes a read that does not fail gives, into so many
+abbrev pub read_size : ShelfState → List ℕ → ℕ → ℕ → ℕ
+read_size s name place size =
+    min s.most (min size (option_map_or (λ file. length file.bytes - place) (held_under name s.files) 0))

@@ -1,0 +1,42 @@
+-- a sink in memory, and what its calls make of it
+use Rattle.std.specs.Prelude.{◌≡◌, ◌≤◌, ◌-◌, ℕ, Bool, List, [], ◌∷◌, ◌++◌, length, take, if◌then◌else◌}
+use Rattle.shelf_io.specs.Calls.{one_more, is_told, is_refused, fitting}
+
+-- the bytes taken, how many more it can take, its count of faults, how many calls of put there were,
+-- and the numbers of the calls that fail
+pub record SinkState : Type 0 where
+  pub taken : List ℕ
+  pub room : ℕ
+  pub faults : ℕ
+  pub calls : ℕ
+  pub failing : List ℕ
+
+-- a sink that took nothing, with this room
+abbrev pub fresh_sink : ℕ → SinkState
+fresh_sink room = record { taken = []; room = room; faults = 0; calls = 0; failing = [] }
+
+-- the next call was told to fail, or the piece is longer than the room
+abbrev pub put_fails : SinkState → List ℕ → Bool
+put_fails s piece = is_refused (is_told s.failing s.calls) s.room (length piece)
+
+-- how many bytes of the piece the next call takes
+abbrev pub put_size : SinkState → List ℕ → ℕ
+put_size s piece = fitting (is_told s.failing s.calls) s.room (length piece)
+
+-- the sink after the next call
+abbrev pub put_after : SinkState → List ℕ → SinkState
+put_after s piece = record {
+  taken = s.taken ++ take (put_size s piece) piece;
+  room = s.room - put_size s piece;
+  faults = if put_fails s piece then one_more s.faults else s.faults;
+  calls = one_more s.calls;
+  failing = s.failing;
+}
+
+-- the sink with one more call that fails
+abbrev pub failing_sink : ℕ → SinkState → SinkState
+failing_sink call s = record s { failing = s.failing ++ call ∷ [] }
+
+-- the sink was told of no failure and has room for so many bytes
+abbrev pub PutsWell : SinkState → ℕ → Type 0
+PutsWell s bytes = (s.failing ≡ []) × (bytes ≤ s.room)

@@ -1,0 +1,137 @@
+ghost use Rattle.std.specs.Prelude.{◌≡◌, ◌≤◌, ◌<◌, ℕ, vec_len, IfOk, OnOk, OnErr, IfSome, length, option_map};
+ghost use Rattle.shelf_io.specs.Contents.{put_bytes};
+ghost use Rattle.shelf_io.specs.Held.{PlacesHaveRoom, place_of};
+ghost use Rattle.shelf_io.specs.MemShelf.{fresh_shelf, shelf_contents, shelf_with};
+
+use crate::place::Place;
+use crate::stored::Stored;
+use std::alloc::{AllocError, Global};
+use std::marker::Model;
+
+mod reading;
+
+/// A shelf that keeps its files in memory.
+///
+/// The room for the bytes that can be appended, over all files, and the places for new names are taken when
+/// it is made, and no call gives them back. Calls of `read_at`, `create` and `append` are numbered together
+/// from 1, those that fail included.
+#[derive(Debug, Drop)]
+pub struct MemShelf {
+    alloc: Global,
+    files: Vec<Stored>,
+    spare: Vec<Place>,
+    shared_reads: u64,
+    shared_writes: u64,
+    room: usize,
+    most: usize,
+    calls: u64,
+    failing: Vec<u64>,
+}
+
+impl Model for MemShelf {
+    ghost use Rattle.std.specs.Prelude.{◌+◌, ◌≤◌, vec_len};
+    ghost use Rattle.std.specs.Vec.{vec_capacity};
+    ghost use Rattle.shelf_io.specs.Held.{HaveRoom, PlacesHaveRoom};
+    ghost use Rattle.shelf_io.specs.MemShelf.{ShelfState};
+
+    ghost Value = { ShelfState };
+
+    ghost view = { λ s. record {
+      files = s.files.items;
+      shared_reads = s.shared_reads;
+      shared_writes = s.shared_writes;
+      room = s.room;
+      places = vec_len s.spare;
+      most = s.most;
+      calls = s.calls;
+      failing = s.failing.items;
+    } };
+
+    ghost invariant = { λ s.
+        HaveRoom s.room s.files.items × PlacesHaveRoom s.room s.spare.items
+        × (vec_len s.files + vec_len s.spare ≤ vec_capacity s.files) × (1 ≤ s.most) };
+}
+
+// Where the file of this name stands.
+fn place_of(files: &[Stored], name: &str) -> Option<usize>
+    ensures place { result ≡ place_of name.now files.now }
+    ensures inside { IfSome result (λ at. at < length files.now) }
+{
+    for (at, file) in files.iter().enumerate() {
+        if file.is_called(name) {
+            return Some(at);
+        }
+    }
+    None
+}
+
+impl MemShelf {
+    /// A shelf with no file, room for so many appended bytes over all files, and places for so many new
+    /// names of up to 255 bytes.
+    pub fn empty(alloc: Global, room: usize, places: usize) -> Result<MemShelf, AllocError>
+        ensures { IfOk result (λ shelf. shelf ≡ fresh_shelf room places) }
+    {
+        Ok(MemShelf {
+            alloc,
+            files: Vec::with_capacity(alloc, places)?,
+            spare: reserve_places(alloc, room, places)?,
+            shared_reads: 0,
+            shared_writes: 0,
+            room,
+            most: usize::MAX,
+            calls: 0,
+            failing: Vec::new(alloc),
+        })
+    }
+
+    /// Puts these bytes under the name. This is no call and takes no room and no place, and a name that was
+    /// held keeps its counts. Where memory is refused, the shelf is as before.
+    pub fn put_file(&mut self, name: &str, bytes: &[u8]) -> Result<(), AllocError>
+        ensures ok { OnOk result (self.new ≡ shelf_with name.now bytes.now self.old) }
+        ensures contents { OnOk result
+            (shelf_contents self.new ≡ put_bytes name.now bytes.now (shelf_contents self.old)) }
+        ensures err { OnErr result (self.new ≡ self.old) }
+    {
+        match place_of(&self.files, name) {
+            Some(at) => {
+                let file = &mut self.files[at];
+                file.put(self.alloc, bytes, self.room)
+            }
+            None => {
+                let file = Stored::of(
+                    self.alloc,
+                    name,
+                    bytes,
+                    self.room,
+                    self.shared_reads,
+                    self.shared_writes,
+                )?;
+                self.files.reserve(self.spare.len() + 1)?;
+                self.files.push(file).unwrap();
+                Ok(())
+            }
+        }
+    }
+
+    /// The bytes under the name, `None` where it is not held.
+    pub fn file(&self, name: &str) -> Option<&[u8]>
+        ensures { option_map (λ bytes. bytes.now) result ≡ (shelf_contents self.now).file name.now }
+    {
+        match place_of(&self.files, name) {
+            Some(at) => Some(self.files[at].bytes()),
+            None => None,
+        }
+    }
+}
+
+// So many places, each with this room.
+fn reserve_places(alloc: Global, room: usize, places: usize) -> Result<Vec<Place>, AllocError>
+    ensures count { IfOk result (λ spare. vec_len spare ≡ places) }
+    ensures each { IfOk result (λ spare. PlacesHaveRoom room spare.items) }
+{
+    let mut spare = Vec::with_capacity(alloc, places)?;
+    for _ in 0..places {
+        spare.push(Place::reserve(alloc, room)?)?;
+    }
+    Ok(spare)
+}

@@ -1,0 +1,113 @@
+ghost use Rattle.std.specs.Prelude.{◌≡◌, ◌≤◌, ℕ, List, Option, Some, IfOk, OnOk, OnErr, is_err};
+ghost use Rattle.std.specs.Io.KnownBytes.{append_known};
+ghost use Rattle.shelf_io.specs.Counts.{Rose};
+ghost use Rattle.shelf_io.specs.MemSink.{PutsWell, failing_sink, fresh_sink, put_after, put_fails};
+ghost use Rattle.shelf_io.specs.Taking.{AddsFront, TakesWell};
+
+use crate::calls::{fitting, is_told};
+use crate::failed::Failed;
+use crate::sink::Sink;
+use std::alloc::{AllocError, Global};
+use std::marker::Model;
+
+/// A sink that keeps what it takes in memory, with the room for it taken when it is made.
+///
+/// Calls of `put` are numbered from 1, those that fail included. A call fails where its number was given to
+/// `fail_at`, or where its piece is longer than the room that is left, and nowhere else.
+#[derive(Debug, Drop)]
+pub struct MemSink {
+    bytes: Vec<u8>,
+    room: usize,
+    faults: u64,
+    calls: u64,
+    failing: Vec<u64>,
+}
+
+impl Model for MemSink {
+    ghost use Rattle.std.specs.Prelude.{◌+◌, ◌≤◌, vec_len};
+    ghost use Rattle.std.specs.Vec.{vec_capacity};
+    ghost use Rattle.shelf_io.specs.MemSink.{SinkState};
+
+    ghost Value = { SinkState };
+
+    ghost view = { λ s. record {
+      taken = s.bytes.items;
+      room = s.room;
+      faults = s.faults;
+      calls = s.calls;
+      failing = s.failing.items;
+    } };
+
+    ghost invariant = { λ s. vec_len s.bytes + s.room ≤ vec_capacity s.bytes };
+}
+
+impl MemSink {
+    /// A sink with room for so many bytes.
+    pub fn empty(alloc: Global, room: usize) -> Result<MemSink, AllocError>
+        ensures { IfOk result (λ sink. sink ≡ fresh_sink room) }
+    {
+        Ok(MemSink {
+            bytes: Vec::with_capacity(alloc, room)?,
+            room,
+            faults: 0,
+            calls: 0,
+            failing: Vec::new(alloc),
+        })
+    }
+
+    /// Lets the call of this number fail. Where memory is refused, the sink is as before.
+    pub fn fail_at(&mut self, call: u64) -> Result<(), AllocError>
+        ensures ok { OnOk result (self.new ≡ failing_sink call self.old) }
+        ensures err { OnErr result (self.new ≡ self.old) }
+    {
+        self.failing.push(call)?;
+        Ok(())
+    }
+
+    /// The bytes taken so far.
+    pub fn taken(&self) -> &[u8]
+        ensures { result.now ≡ self.now.taken }
+    {
+        self.bytes.as_slice()
+    }
+}
+
+impl Sink for MemSink {
+    ghost taken = { λ s. Some s.taken };
+
+    ghost fault_count = { λ s. s.faults };
+
+    ghost puts_well = { PutsWell };
+
+    fn faults(&self) -> u64 {
+        self.faults
+    }
+
+    fn put(&mut self, piece: &[u8]) -> Result<(), Failed>
+        ensures exact { is_err result ≡ put_fails self.old piece.now }
+        ensures after { self.new ≡ put_after self.old piece.now }
+
+        ensures ok { OnOk result
+            (Some self.new.taken ≡ append_known (Some self.old.taken) piece.now) }
+        ensures err { OnErr result
+            (AddsFront (Some self.old.taken) (Some self.new.taken) piece.now) }
+
+        ensures grows { self.old.faults ≤ self.new.faults }
+        ensures failed { OnErr result (Rose self.old.faults self.new.faults) }
+
+        ensures works { TakesWell (PutsWell self.old) (PutsWell self.new)
+            self.old.faults self.new.faults piece.now result }
+    {
+        let told = is_told(&self.failing, self.calls);
+        let refused = told || self.room < piece.len();
+        let size = fitting(told, self.room, piece.len());
+        self.calls = self.calls.saturating_add(1);
+        self.bytes.extend_from_slice(&piece[..size]).unwrap();
+        self.room -= size;
+        if refused {
+            self.faults = self.faults.saturating_add(1);
+            return Err(Failed);
+        }
+        Ok(())
+    }
+}

@@ -1,0 +1,133 @@
+ghost use Rattle.std.specs.Prelude.{◌≡◌, ◌+◌, ◌≤◌, [], ◌++◌, length, IfOk, OnOk, OnErr};
+ghost use Rattle.std.specs.Str.{bytes_eq};
+ghost use Rattle.std.specs.String.{string_bytes};
+ghost use Rattle.std.specs.Vec.{vec_capacity};
+ghost use Rattle.shelf_io.specs.Calls.{one_more};
+ghost use Rattle.shelf_io.specs.Held.{with_bytes, with_failed_read};
+
+use std::alloc::{AllocError, Global};
+use std::marker::Model;
+
+// A file of a shelf in memory, with its counts of failures. The memory that it may grow into is taken in advance.
+#[derive(Debug, Drop)]
+pub(crate) struct Stored {
+    name: String,
+    bytes: Vec<u8>,
+    reserved: usize,
+    reads: u64,
+    writes: u64,
+}
+
+impl Model for Stored {
+    ghost use Rattle.std.specs.Prelude.{◌≤◌};
+    ghost use Rattle.std.specs.String.{string_bytes};
+    ghost use Rattle.std.specs.Vec.{vec_capacity, vec_len};
+    ghost use Rattle.shelf_io.specs.Held.{Held};
+
+    ghost Value = { Held };
+
+    ghost view = { λ f. record {
+      name = string_bytes f.name;
+      bytes = f.bytes.items;
+      reserved = f.reserved;
+      reads = f.reads;
+      writes = f.writes;
+    } };
+
+    ghost invariant = { λ f. (vec_len f.bytes ≤ f.reserved) × (f.reserved ≤ vec_capacity f.bytes) };
+}
+
+impl Stored {
+    // A file with these counts, and room for `room` more bytes.
+    pub(crate) fn of(
+        alloc: Global,
+        name: &str,
+        bytes: &[u8],
+        room: usize,
+        reads: u64,
+        writes: u64,
+    ) -> Result<Stored, AllocError>
+        ensures { IfOk result (λ f. f ≡ record {
+          name = name.now;
+          bytes = bytes.now;
+          reserved = length bytes.now + room;
+          reads = reads;
+          writes = writes;
+        }) }
+    {
+        let reserved = bytes.len().checked_add(room).ok_or(AllocError)?;
+        let mut buffer = Vec::with_capacity(alloc, reserved)?;
+        buffer.extend_from_slice(bytes)?;
+        Ok(Stored {
+            name: String::from_str(alloc, name)?,
+            bytes: buffer,
+            reserved,
+            reads,
+            writes,
+        })
+    }
+
+    // A file with no bytes in this buffer, which has room for so many.
+    pub(crate) fn empty(
+        name: String,
+        bytes: Vec<u8>,
+        reserved: usize,
+        reads: u64,
+        writes: u64,
+    ) -> Stored
+        requires none { bytes.items ≡ [] }
+        requires room { reserved ≤ vec_capacity bytes }
+        ensures { result ≡ record {
+          name = string_bytes name;
+          bytes = [];
+          reserved = reserved;
+          reads = reads;
+          writes = writes;
+        } }
+    {
+        Stored {
+            name,
+            bytes,
+            reserved,
+            reads,
+            writes,
+        }
+    }
+
+    pub(crate) fn is_called(&self, name: &str) -> bool
+        ensures { result ≡ bytes_eq self.now.name name.now }
+    {
+        self.name.as_str() == name
+    }
+
+    pub(crate) fn bytes(&self) -> &[u8]
+        ensures { result.now ≡ self.now.bytes }
+    {
+        self.bytes.as_slice()
+    }
+
+    // Puts other bytes into the file, with room for `room` more. Where memory is refused, it is as before.
+    pub(crate) fn put(&mut self, alloc: Global, bytes: &[u8], room: usize) -> Result<(), AllocError>
+        ensures ok { OnOk result (self.new ≡ with_bytes bytes.now room self.old) }
+        ensures err { OnErr result (self.new ≡ self.old) }
+    {
+        let reserved = bytes.len().checked_add(room).ok_or(AllocError)?;
+        let mut buffer = Vec::with_capacity(alloc, reserved)?;
+        buffer.extend_from_slice(bytes)?;
+        self.bytes = buffer;
+        self.reserved = reserved;
+        Ok(())
+    }
+
+    pub(crate) fn reads(&self) -> u64
+        ensures { result ≡ self.now.reads }
+    {
+        self.reads
+    }
+
+    pub(crate) fn fail_read(&mut self)
+        ensures { self.new ≡ with_failed_read self.old }
+    {
+        self.reads = self.reads.saturating_add(1);
+    }
+}
