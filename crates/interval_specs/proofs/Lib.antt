@@ -11,3 +11,5 @@ pub mod QuotientLaw
 pub mod SizeLaws
 pub mod Laws
 pub mod Ranges
+pub mod Roots
+pub mod RootLaws

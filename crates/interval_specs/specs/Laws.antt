@@ -1,8 +1,9 @@
 -- The laws of the operations: each keeps enclosing where the scale grows from n to m * n and its inputs narrow.
 -- The inputs are plain ends, and n and m any numbers.
-use Rattle.std.specs.Prelude.{ℕ, ℤ, pos, ◌*◌, ◌<◌, ◌<ℤ◌}
+use Rattle.std.specs.Prelude.{ℕ, ℤ, pos, ◌*◌, ◌<◌, ◌<ℤ◌, ◌≤ℤ◌}
 use Rattle.interval_specs.specs.Ends.{Ends}
 use Rattle.interval_specs.specs.Encloses.{Encloses}
+use Rattle.interval_specs.specs.Roots.{sqrt_at, cbrt_at}
 use Rattle.interval_specs.specs.Operations.{ratio_at, sum_of, difference_of, product_at, quotient_at, square_at, multiple_of, fraction_of, absolute_of, cut_low_at, cut_high_at, hull_of}
 
 -- of a ratio
@@ -53,3 +54,11 @@ CutHighEncloses = (n m : ℕ) (k : ℤ) (a a' : Ends) → Encloses m a a' → En
 -- of a hull
 abbrev pub HullEncloses : Type 0
 HullEncloses = (m : ℕ) (a b a' b' : Ends) → Encloses m a a' → Encloses m b b' → Encloses m (hull_of a b) (hull_of a' b')
+
+-- of a square root of an interval that is not below 0
+abbrev pub SqrtEncloses : Type 0
+SqrtEncloses = (n m : ℕ) (a a' : Ends) → pos 0 ≤ℤ a.lo → Encloses m a a' → Encloses m (sqrt_at n a) (sqrt_at (m * n) a')
+
+-- of a cube root of an interval that is not below 0
+abbrev pub CbrtEncloses : Type 0
+CbrtEncloses = (n m : ℕ) (a a' : Ends) → pos 0 ≤ℤ a.lo → Encloses m a a' → Encloses m (cbrt_at n a) (cbrt_at (m * n) a')

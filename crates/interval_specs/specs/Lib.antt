@@ -4,3 +4,4 @@ pub mod Operations
 pub mod Encloses
 pub mod Laws
 pub mod Ranges
+pub mod Roots

@@ -1,11 +1,10 @@
 -- what a read keeps of a shelf in memory: its contents, and the counts of other names and of the other kind
-use Rattle.std.proofs.Common.{◌≡◌, ◌≢◌, ◌+◌, ◌-◌, ◌<◌, ◌≤◌, ◌||◌, not, ℕ, Bool, true, false, nat_lt, Option, Some, None, List, [], option_map, if◌then◌else◌, is_some, min, IsSome, refl, sym, ap, ◌∙◌, subst, arith}
+use Rattle.std.proofs.Common.{◌≡◌, ◌+◌, ◌<◌, ◌≤◌, ℕ, Bool, true, false, Option, Some, None, List, [], option_map, if◌then◌else◌, is_some, IsSome, refl, sym, ap, ◌∙◌, subst, arith}
 use Rattle.std.specs.Option.{option_map_or}
 use Rattle.std.specs.Str.{bytes_eq}
 use Rattle.shelf_io.specs.Calls.{one_more, is_told}
-use Rattle.shelf_io.specs.Contents.{Contents, told_file}
 use Rattle.shelf_io.specs.Counts.{CountsOf, KeepsWell, Rose}
-use Rattle.shelf_io.specs.Held.{Held, held_under, change_under, with_failed_read}
+use Rattle.shelf_io.specs.Held.{Held, held_under, with_failed_read}
 use Rattle.shelf_io.specs.MemShelf.{ShelfState, ReadsWell, WritesWell, is_held, read_fails, read_after, shelf_contents, shelf_reads, shelf_writes}
 use Rattle.shelf_io.proofs.Changes.{grows_one, file_after, under_after, kept, kept_or, still_held, count_grows, count_others, count_rose, count_well, same_name, other_name}
 use Rattle.shelf_io.proofs.Shelves.{same_contents, same_file}

@@ -1,13 +1,10 @@
 -- a read of a name, as a change of the shelf in memory
-use Rattle.std.proofs.Common.{◌≡◌, ◌≢◌, ◌+◌, ◌-◌, ◌<◌, ◌≤◌, ◌||◌, not, ℕ, Bool, true, false, Option, Some, None, List, [], ◌∷◌, ◌++◌, length, get_or, option_map, if◌then◌else◌, is_some, min, take, drop, Ok, refl, sym, ap, ◌∙◌, subst, arith}
+use Rattle.std.proofs.Common.{◌≡◌, ◌-◌, ◌≤◌, ◌||◌, not, ℕ, Bool, true, false, Option, Some, None, List, length, get_or, if◌then◌else◌, is_some, min, take, drop, Ok, refl, sym, ap, ◌∙◌, arith}
 use Rattle.std.proofs.Math.ListN.{set}
 use Rattle.std.proofs.lemmas.Bool.{false≢true}
-use Rattle.std.specs.Option.{option_map_or}
-use Rattle.std.specs.Str.{bytes_eq}
 use Rattle.shelf_io.specs.Calls.{one_more, is_told}
-use Rattle.shelf_io.specs.Contents.{Contents}
 use Rattle.shelf_io.specs.Held.{Held, held_under, place_of, change_under, with_failed_read}
-use Rattle.shelf_io.specs.MemShelf.{ShelfState, is_held, read_fails, read_after, read_size, shelf_contents, shelf_reads}
+use Rattle.shelf_io.specs.MemShelf.{ShelfState, is_held, read_fails, read_after, read_size, shelf_contents}
 use Rattle.shelf_io.specs.declared.failed.Failed.{Failed}
 use Rattle.shelf_io.specs.Reading.{Reads}
 use Rattle.shelf_io.proofs.Files.{change_at, change_missing, read_there, read_nowhere}

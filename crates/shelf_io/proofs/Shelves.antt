@@ -1,12 +1,11 @@
 -- what a change of a shelf in memory does to its contents and counts
-use Rattle.std.proofs.Common.{◌≡◌, ◌+◌, ◌<◌, ◌≤◌, ℕ, Bool, true, false, Option, Some, None, List, [], ◌∷◌, ◌++◌, length, get_or, option_map, if◌then◌else◌, is_some, refl, sym, ap, ◌∙◌, subst, arith, Decides}
+use Rattle.std.proofs.Common.{◌≡◌, ◌+◌, ℕ, Bool, true, false, Option, Some, None, List, [], ◌∷◌, ◌++◌, length, get_or, option_map, if◌then◌else◌, is_some, refl, sym, ap, ◌∙◌}
 use Rattle.std.proofs.Math.ListN.{set}
 use Rattle.std.proofs.lemmas.Bool.{false≢true}
-use Rattle.std.specs.Option.{option_map_or}
 use Rattle.std.specs.Str.{bytes_eq}
 use Rattle.std.proofs.lemmas.Slice.Eq.{bytes_eq-Decides}
 use Rattle.shelf_io.specs.Contents.{Contents, put_bytes}
-use Rattle.shelf_io.specs.Held.{Held, held_under, place_of, change_under, with_bytes, with_failed_read}
+use Rattle.shelf_io.specs.Held.{Held, held_under, place_of, change_under, with_bytes}
 use Rattle.shelf_io.specs.MemShelf.{ShelfState, shelf_contents, shelf_with}
 use Rattle.shelf_io.proofs.Files.{under_changed, under_pushed, change_at, read_there, read_nowhere}
 

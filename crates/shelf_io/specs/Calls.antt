@@ -1,5 +1,5 @@
 -- calls of an object in memory: which of them fail, and what a call that takes a piece takes of it
-use Rattle.std.specs.Prelude.{◌==◌, ◌||◌, ◌+◌, ◌-◌, ◌/◌, ◌^◌, ℕ, Bool, List, length, take, min, nat_lt, if◌then◌else◌}
+use Rattle.std.specs.Prelude.{◌==◌, ◌||◌, ◌+◌, ◌-◌, ◌/◌, ◌^◌, ℕ, Bool, List, min, nat_lt, if◌then◌else◌}
 use Rattle.std.specs.List.{list_any}
 
 -- a count with one more, which stays at its last value

@@ -1,5 +1,5 @@
 -- a shelf in memory, and what its calls make of it
-use Rattle.std.specs.Prelude.{◌≡◌, ◌≤◌, ◌<◌, ◌+◌, ◌-◌, ◌^◌, ◌||◌, not, ℕ, Bool, Option, Some, None, List, [], ◌∷◌, ◌++◌, length, min, if◌then◌else◌, option_map, is_some, IsSome}
+use Rattle.std.specs.Prelude.{◌≡◌, ◌≤◌, ◌<◌, ◌+◌, ◌-◌, ◌^◌, ◌||◌, not, ℕ, Bool, List, [], ◌∷◌, ◌++◌, length, min, if◌then◌else◌, option_map, is_some, IsSome}
 use Rattle.std.specs.Option.{option_map_or}
 use Rattle.shelf_io.specs.Calls.{one_more, is_told}
 use Rattle.shelf_io.specs.Contents.{Contents}

@@ -23,3 +23,6 @@ pub use real_sink::RealSink;
 pub use shelf::Shelf;
 pub use sink::Sink;
 pub use whole_file::{TakeFault, take_file};
+
+#[cfg(test)]
+mod tests;

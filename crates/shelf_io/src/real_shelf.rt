@@ -30,12 +30,7 @@ impl<R: Files<File = File> + Drop> RealShelf<R> {
     }
 }
 
-fn read<R: Files<File = File>>(
-    rt: &R,
-    name: &str,
-    place: u64,
-    into: &mut [u8],
-) -> io::Result<usize>
+fn read<R: Files<File = File>>(rt: &R, name: &str, place: u64, into: &mut [u8]) -> io::Result<usize>
     ensures { IfOk result (λ count. count ≤ length into.new) }
 {
     fs::open(rt, name)?.read_at(into, place)

@@ -1,6 +1,5 @@
-use Rattle.std.proofs.Common.{◌≡◌, ◌+◌, ◌≤◌, vec_len}
+use Rattle.std.proofs.Common.{◌≡◌, vec_len}
 use Rattle.shelf_io.specs.Held.{PlacesHaveRoom}
-use Rattle.std.specs.Vec.{vec_capacity}
 use Rattle.shelf_io.proofs.mem_shelf.reserve_places.Given as goal
 
 abbrev pub invariant-loop : goal.invariant-loop

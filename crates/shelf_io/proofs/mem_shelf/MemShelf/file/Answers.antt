@@ -1,6 +1,5 @@
-use Rattle.std.proofs.Common.{ap, ◌∙◌, option_map, sym, Some, List, ℕ}
+use Rattle.std.proofs.Common.{ap, Some}
 use Rattle.shelf_io.proofs.Files.{read_there, read_nowhere}
-use Rattle.shelf_io.specs.Held.{Held}
 use Rattle.shelf_io.proofs.mem_shelf.MemShelf.file.Goals as goal
 
 pub returns-in-Some : goal.returns-in-Some

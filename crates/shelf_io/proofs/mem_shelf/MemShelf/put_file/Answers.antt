@@ -1,7 +1,6 @@
-use Rattle.std.proofs.Common.{◌≡◌, ◌++◌, ◌∷◌, [], ap, ◌∙◌, sym, List, arith}
+use Rattle.std.proofs.Common.{◌≡◌, ◌++◌, ◌∷◌, [], ap, ◌∙◌, arith}
 use Rattle.std.proofs.lemmas.Grind.{common_steps}
 use Rattle.std.proofs.lemmas.Result.{on_ok_weaker}
-use Rattle.shelf_io.specs.Held.{Held}
 use Rattle.shelf_io.specs.contracts.mem_shelf.MemShelf.{the_view}
 use Rattle.shelf_io.specs.MemShelf.{shelf_contents}
 use Rattle.shelf_io.proofs.Shelves.{contents_with, with_held, with_new}

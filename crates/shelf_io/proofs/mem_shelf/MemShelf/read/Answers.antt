@@ -1,4 +1,4 @@
-use Rattle.std.proofs.Common.{◌≡◌, ℕ, rules, arith}
+use Rattle.std.proofs.Common.{◌≡◌, arith}
 use Rattle.std.proofs.lemmas.Grind.{common_steps}
 use Rattle.shelf_io.specs.Calls.{is_told, one_more}
 use Rattle.shelf_io.specs.contracts.mem_shelf.MemShelf.{the_view}

@@ -1,5 +1,3 @@
-use Rattle.std.proofs.Common.{◌≡◌, true, sym, ◌∙◌}
-use Rattle.std.specs.Result.{is_err}
 use Rattle.shelf_io.proofs.Changes.{after_error}
 use Rattle.shelf_io.proofs.ReadKeeps.{read_contents, read_counts, read_other_kind, read_rose, read_keeps_reading, read_keeps_writing}
 use Rattle.shelf_io.proofs.mem_shelf.reading.MemShelfShelf.read_at.Goals as goal

@@ -1,4 +1,3 @@
-use Rattle.std.proofs.Common.{ap, ◌∙◌, sym}
 use Rattle.shelf_io.proofs.Files.{read_there, read_nowhere}
 use Rattle.shelf_io.proofs.mem_shelf.reading.MemShelfShelf.read_faults.Goals as goal
 

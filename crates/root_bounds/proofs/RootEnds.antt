@@ -1,0 +1,31 @@
+-- The ends of a root, from what the integer roots ensure, and what they are taken of.
+use Rattle.std.proofs.Common.{ℕ, ℤ, pos, ◌≡◌, ◌*◌, ◌^◌, ◌≤◌, ◌<◌, ◌∙◌, ap, subst, sym, unsigned_abs, FitsSigned, Fits, arith, mul-le-mul}
+use Rattle.std.proofs.lemmas.Int.{to_z_pos, to_z-of_z}
+use Rattle.std.specs.Int.{w128}
+use mir.Val.{to_z}
+use lib.Signed.{mag}
+use Rattle.interval_specs.specs.Roots.{root_below, root_above}
+use Rattle.interval_specs.proofs.Roots.{IsPower, below_is, above_is}
+use Rattle.fix_bounds.proofs.Passed.{passed, read}
+
+-- the lower end, r, is the root of y, which is n
+pub low_end : (power : ℕ → ℕ) → IsPower power → (r y n : ℕ) → r < 2 ^ 127 → y ≡ n → power r ≤ y → ((s : ℕ) → power s ≤ y → s ≤ r) → to_z w128 r ≡ pos (root_below power n)
+low_end power p r y n small e fits greatest = to_z_pos w128 r small ∙ ap pos (below_is power p y r fits greatest ∙ ap (root_below power) e)
+
+-- the upper end
+pub high_end : (power : ℕ → ℕ) → IsPower power → (r y n : ℕ) → r < 2 ^ 127 → y ≡ n → y ≤ power r → ((s : ℕ) → y ≤ power s → r ≤ s) → to_z w128 r ≡ pos (root_above power n)
+high_end power p r y n small e fits least = to_z_pos w128 r small ∙ ap pos (above_is power p y r fits least ∙ ap (root_above power) e)
+
+-- what a root is taken of: an end that was read, times a factor
+pub radicand_is : (y factor : ℕ) (r z : ℤ) → mag r < 2 ^ 127 → r ≡ z → y ≡ unsigned_abs (passed r) * factor → y ≡ unsigned_abs z * factor
+radicand_is y factor r z fits e h = h ∙ ap (λ x. unsigned_abs x * factor) (read r z fits e)
+
+-- an end of at most ten units, times the square of the unit, has room
+pub cubic_room : (e u n : ℕ) (z w : ℤ) → FitsSigned w128 z → mag w < 2 ^ 127 → e ≡ unsigned_abs (passed z) → u ≡ unsigned_abs (passed w) → unsigned_abs z ≤ 10 * n → w ≡ pos n → n ≤ 10 ^ 12 → Fits w128 (e * (u * u))
+cubic_room e u n z w fits fits' p q small is few =
+    let a : e ≤ 10 * n = subst (λ t. t ≤ 10 * n) (sym (p ∙ ap unsigned_abs (to_z-of_z w128 z fits))) small in
+    let b : u ≡ n = q ∙ ap unsigned_abs (read w (pos n) fits' is) in
+    let c : u ≤ 10 ^ 12 = subst (λ t. t ≤ 10 ^ 12) (sym b) few in
+    let d : e ≤ 10 ^ 13 = omega arith in
+    let m = mul-le-mul d (mul-le-mul c c) in
+    omega arith

@@ -1,0 +1,33 @@
+use Rattle.std.proofs.Common.{◌≡◌, pos, ◌*◌, unsigned_abs, arith}
+use Rattle.std.specs.Int.{w128}
+use mir.Val.{to_z}
+use Rattle.interval_specs.specs.Roots.{cube, root_below, root_above, cbrt_at}
+use Rattle.interval_specs.proofs.Held.{held_by, is_ends}
+use Rattle.interval_specs.proofs.Roots.{cube_power}
+use Rattle.interval_specs.proofs.RootLaws.{cbrt_held}
+use Rattle.root_bounds.proofs.RootEnds.{low_end, high_end, radicand_is}
+use Rattle.root_bounds.proofs.interval.cbrt_iv.Given as given
+use Rattle.root_bounds.proofs.interval.cbrt_iv.Goals as goal
+use Rattle.root_bounds.proofs.interval.cbrt_iv.Goals.{After-cbrt_above_end-above}
+
+low : (g : given.Over) (c : After-cbrt_above_end-above g) → to_z w128 c.cbrt_floor-below.result ≡ pos (root_below cube (unsigned_abs c.args.x.lo * (g.S.Scale.unit * g.S.Scale.unit)))
+low g c =
+    low_end cube cube_power c.cbrt_floor-below.result c.times_unit_twice-low.result _ (omega (arith, c.cbrt_floor-below.ensures.small))
+    (radicand_is c.times_unit_twice-low.result ((g.S.Scale.unit * g.S.Scale.unit)) c.lo.result c.args.x.lo c.lo.type_inv c.lo.ensures.is c.times_unit_twice-low.ensures)
+    c.cbrt_floor-below.ensures.fits c.cbrt_floor-below.ensures.greatest
+
+high : (g : given.Over) (c : After-cbrt_above_end-above g) → to_z w128 c.cbrt_above_end-above.result ≡ pos (root_above cube (unsigned_abs c.args.x.hi * (g.S.Scale.unit * g.S.Scale.unit)))
+high g c =
+    high_end cube cube_power c.cbrt_above_end-above.result c.times_unit_twice-high.result _ (omega (arith, c.cbrt_above_end-above.ensures.small))
+    (radicand_is c.times_unit_twice-high.result ((g.S.Scale.unit * g.S.Scale.unit)) c.hi.result c.args.x.hi c.hi.type_inv c.hi.ensures.is c.times_unit_twice-high.ensures)
+    c.cbrt_above_end-above.ensures.fits c.cbrt_above_end-above.ensures.least
+
+pub of_ends-requires : goal.of_ends-requires
+unfolding cbrt_at
+of_ends-requires g c = held_by _ _ (cbrt_at g.S.Scale.unit c.args.x) (low g c) (high g c) (cbrt_held g.S.Scale.unit c.args.x g.S.Scale.most c.requires.not_below c.lo.ensures.held)
+
+pub returns-clause-is : goal.returns-clause-is
+unfolding cbrt_at
+returns-clause-is g c =
+    let d = (goal.at.returns-clause-is g c).After-cbrt_above_end-above in
+    is_ends _ _ _ (cbrt_at g.S.Scale.unit c.args.x) c.of_ends.ensures.is (low g d) (high g d)

@@ -1,0 +1,4 @@
+pub mod BookFacts
+pub mod ColumnFacts
+pub mod NameFacts
+pub mod RecordFacts

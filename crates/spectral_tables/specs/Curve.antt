@@ -1,0 +1,19 @@
+-- The reflectances of one cloth.
+use Rattle.std.specs.Prelude.{◌≡◌, ◌≤◌, ℕ, List, All, length, replicate}
+
+-- a reflectance in millionths: 0.01 to 100 percent
+abbrev pub IsReflectance : ℕ → Type 0
+IsReflectance m = (100 ≤ m) × (m ≤ 1000000)
+
+-- how many places there may be: those of 400 to 700 nm by 10
+abbrev pub IsPlaceCount : ℕ → Type 0
+IsPlaceCount n = n ≡ 31
+
+-- what a curve keeps
+pub record IsCurve (reflectances : List ℕ) : Type 0 where
+  pub count : IsPlaceCount (length reflectances)
+  pub range : All IsReflectance reflectances
+
+-- the curve of a cloth that reflects all light
+abbrev pub full_curve : List ℕ
+full_curve = replicate 31 1000000

@@ -1,0 +1,9 @@
+pub mod Trim
+pub mod Records
+pub mod Faults
+pub mod Numbers
+pub mod Name
+pub mod Curve
+pub mod CurveBook
+pub mod CurveFile
+pub mod Rows

@@ -1,0 +1,16 @@
+-- The records of a table file.
+use Rattle.std.specs.Prelude.{ℕ, List, map}
+use Rattle.csv.specs.Reading.{records, default_config, strip_bom}
+use Rattle.spectral_tables.specs.Trim.{trimmed}
+
+-- a table: its records in turn, each a list of fields
+abbrev pub Table : Type 0
+Table = List (List (List ℕ))
+
+-- One byte order mark is taken off, and `csv` takes one more off what it is given.
+unfoldable pub records_of : List ℕ → Table
+records_of bytes = records default_config (strip_bom (strip_bom bytes))
+
+-- the fields of a record without the blanks around each
+abbrev pub trimmed_fields : List (List ℕ) → List (List ℕ)
+trimmed_fields fields = map trimmed fields

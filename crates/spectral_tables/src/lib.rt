@@ -1,0 +1,23 @@
+//! Curve files and weights files: tables of comma-separated fields, read to the first fault.
+#![tactic(auto)]
+
+mod curve;
+mod curve_book;
+mod curve_columns;
+mod curve_file;
+mod curve_header;
+mod curve_rows;
+mod fault;
+mod name;
+mod numbers;
+mod records;
+mod trim;
+
+pub use curve::Curve;
+pub use curve_book::CurveBook;
+pub use curve_file::read_curves;
+pub use fault::{TableError, TableFault, TableRule};
+pub use name::is_name;
+
+#[cfg(test)]
+mod tests;

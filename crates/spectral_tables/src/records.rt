@@ -1,0 +1,50 @@
+//! The records of a table file, as the crate `csv` splits them.
+
+ghost use Rattle.std.specs.Prelude.{◌≡◌, ◌+◌, ◌≤◌, length, map, All, IfOk, List, ℕ};
+ghost use Rattle.csv.specs.Reading.{strip_bom};
+ghost use Rattle.csv.specs.Records.{fields_of};
+ghost use Rattle.spectral_tables.specs.Records.{records_of, trimmed_fields};
+
+use crate::trim::trimmed;
+use csv::{ByteRecord, ReaderBuilder};
+use std::alloc::{AllocError, Global};
+
+#[tactic(auto, unfolding(csv::specs::Reading::strip_bom))]
+fn without_mark(bytes: &[u8]) -> &[u8]
+    ensures { result.now ≡ strip_bom bytes.now }
+{
+    match bytes {
+        [0xEF, 0xBB, 0xBF, rest @ ..] => rest,
+        _ => bytes,
+    }
+}
+
+/// The records of the bytes, each with its fields as they stand.
+pub(crate) fn records_of(alloc: Global, bytes: &[u8]) -> Result<Vec<ByteRecord>, AllocError>
+    ensures records { IfOk result (λ v. map fields_of v.items ≡ records_of bytes.now) }
+    ensures fits { IfOk result (λ v. All (λ r. length (fields_of r) ≤ length bytes.now + 1) v.items) }
+{
+    let reader = ReaderBuilder::new()
+        .has_headers(false)
+        .flexible(true)
+        .from_reader(alloc, without_mark(bytes));
+    let mut records = Vec::new(alloc);
+    for record in reader.into_byte_records() {
+        match record {
+            Ok(line) => records.push(line)?,
+            Err(_) => return Err(AllocError),
+        }
+    }
+    Ok(records)
+}
+
+/// The fields of a record, without the spaces and tabs around each.
+pub(crate) fn fields_of(alloc: Global, line: &ByteRecord) -> Result<Vec<&[u8]>, AllocError>
+    ensures { IfOk result (λ v. map (λ f. f.now) v.items ≡ trimmed_fields (fields_of line.now)) }
+{
+    let mut fields = Vec::new(alloc);
+    for field in line.iter() {
+        fields.push(trimmed(field))?;
+    }
+    Ok(fields)
+}
