@@ -1,0 +1,21 @@
+-- What the reads and the judging of a command come to.
+use Rattle.std.specs.Prelude.{ℕ, List, Option, Result, Ok, Err}
+use Rattle.shelf_io.specs.Contents.{Contents}
+use Rattle.dye_run.specs.Answers.{Answer}
+use Rattle.dye_run.specs.Asking.{Answers, Asking}
+use Rattle.dye_run.specs.Endings.{IsUnreadable}
+use Rattle.dye_run.specs.Replies.{Says}
+use Rattle.dye_run.specs.declared.commands.Stop.{Stop}
+use Rattle.dye_run.specs.declared.commands.Stop.TheVariants as stop
+use Rattle.dye_run.specs.declared.reply.Reply.{Reply}
+
+module _ (reads_well : List ℕ → Type 0) (contents : Option Contents) (asking : Asking) (before after : List ℕ → ℕ) where
+  -- a due file could not be read, or memory was wanting
+  abbrev pub Stops : Stop → Type 0
+  Stops (stop.Unreadable name) = IsUnreadable reads_well contents asking before after name.now
+  Stops stop.Memory = Unit {0}
+
+  -- the reply is the answer of the command, or the command stopped
+  abbrev pub IsJudged : Result Reply Stop → Type 0
+  IsJudged (Ok reply) = (a : Answer) × Answers contents asking a × Says reply a
+  IsJudged (Err why) = Stops why

@@ -1,0 +1,13 @@
+pub mod Answers
+pub mod Asking
+pub mod Commands
+pub mod Delivery
+pub mod Due
+pub mod Endings
+pub mod Forms
+pub mod Judging
+pub mod KubelkaMunk
+pub mod Replies
+pub mod Statuses
+pub mod Texts
+pub mod Views

@@ -1,0 +1,48 @@
+ghost use Rattle.std.specs.Prelude.{◌≡◌, ◌≤◌, length, option_map};
+ghost use Rattle.std.specs.Option.{ForSome};
+ghost use Rattle.dye_run.specs.Commands.{book_from as spec_book_from, curve_from as spec_curve_from};
+ghost use Rattle.dye_run.specs.Replies.{Gives};
+ghost use Rattle.spectral_tables.specs.Curve.{IsCurve};
+
+use crate::reply::{Refusal, no_column, table_fault, too_long};
+use spectral_tables::{Curve, CurveBook, TableError, read_curves};
+use std::alloc::Global;
+
+/// How many bytes a file of curves or weights may have.
+pub(crate) const TABLE_LIMIT: u64 = 1_000_000;
+
+/// The curves of a file, of which these bytes came, or `None` where it is too long.
+#[tactic(auto, unfolding(crate::specs::Commands::book_from))]
+pub(crate) fn book_from(
+    alloc: Global,
+    name: &str,
+    came: Option<&[u8]>,
+) -> Result<CurveBook, Refusal>
+    requires { ForSome came (λ bytes. length bytes.now ≤ 1000000) }
+    ensures { Gives (λ b. b) result (spec_book_from name.now (option_map (λ b. b.now) came.entry)) }
+{
+    let Some(bytes) = came else {
+        return Err(too_long(alloc, name));
+    };
+    match read_curves(alloc, bytes) {
+        Ok(book) => Ok(book),
+        Err(TableError::Fault(fault)) => Err(table_fault(alloc, name, fault)),
+        Err(TableError::Memory) => Err(Refusal::Memory),
+    }
+}
+
+/// The curve of a column of the file under `name`.
+#[tactic(auto, unfolding(crate::specs::Commands::curve_from))]
+pub(crate) fn curve_from<'a>(
+    alloc: Global,
+    name: &str,
+    column: &str,
+    book: &'a CurveBook,
+) -> Result<&'a Curve, Refusal>
+    ensures { Gives (λ c. c.now) result (spec_curve_from name.now column.now book.now) }
+{
+    match book.find(column) {
+        Some(curve) => Ok(curve),
+        None => Err(no_column(alloc, name, column)),
+    }
+}
