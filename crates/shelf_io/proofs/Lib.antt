@@ -8,3 +8,4 @@ pub mod ReadKeeps
 pub mod ReadSteps
 pub mod Shelves
 pub mod WriteSteps
+pub mod Written

@@ -20,6 +20,10 @@ abbrev pub add_piece : List ℕ → List ℕ → Contents → Contents
 add_piece name piece c =
     record { file = λ n. if bytes_eq n name then option_map (λ bytes. bytes ++ piece) (c.file n) else c.file n; room = c.room - length piece }
 
+-- the same contents, with these bytes under the name, written into the room
+abbrev pub write_bytes : List ℕ → List ℕ → Contents → Contents
+write_bytes name bytes c = record { file = λ n. if bytes_eq n name then Some bytes else c.file n; room = c.room - length bytes }
+
 -- the piece went behind the bytes of the name, and where the shelf tells its room it had that for it
 abbrev pub AddsTo : List ℕ → List ℕ → (old new : Option Contents) → Type 0
 AddsTo name piece old new = (new ≡ option_map (add_piece name piece) old) × IfSome old (λ c. length piece ≤ c.room)
