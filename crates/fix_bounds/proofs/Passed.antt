@@ -1,6 +1,6 @@
 -- A signed value that code computes and passes on is written as bits and read again: here is what it is then.
-use Rattle.std.proofs.Common.{ℕ, ℤ, ◌≡◌, ◌<◌, ◌≤◌, ◌^◌, ◌∙◌, ap, subst, sym, ◌*ℤ◌, ◌+ℤ◌, ◌-ℤ◌, FitsSigned, unsigned_abs, lt_of_le_of_lt}
-use Rattle.std.proofs.lemmas.Int.{to_z-of_z, fits_signed_from_abs}
+use Rattle.std.proofs.Common.{ℕ, ℤ, pos, arith, ◌≡◌, ◌<◌, ◌≤◌, ◌^◌, ◌∙◌, ap, subst, sym, ◌*ℤ◌, ◌+ℤ◌, ◌-ℤ◌, neg_ℤ, FitsSigned, unsigned_abs, lt_of_le_of_lt}
+use Rattle.std.proofs.lemmas.Int.{to_z-of_z, ints, fits_signed_from_abs}
 use Rattle.std.specs.Int.{w64, w128, int_min, int_max}
 use mir.Val.{to_z, of_z}
 use lib.Signed.{mag}
@@ -45,3 +45,17 @@ read_min m r s x y h e p q = read m (int_min x y) h (e ∙ (λ i. int_min (p i) 
 
 pub read_max : (m r s x y : ℤ) → mag m < 2 ^ 127 → m ≡ int_max r s → r ≡ x → s ≡ y → passed m ≡ int_max x y
 read_max m r s x y h e p q = read m (int_max x y) h (e ∙ (λ i. int_max (p i) (q i)))
+
+-- a value turned round
+zero_minus : (z : ℤ) → pos 0 -ℤ z ≡ neg_ℤ z
+zero_minus z = omega (arith, ints)
+
+pub read_neg : (r x : ℤ) (k : ℕ) → r ≡ x → unsigned_abs x ≤ k → k < 2 ^ 127 → passed (pos 0 -ℤ r) ≡ neg_ℤ x
+read_neg r x k e h room = ap (λ z. passed (pos 0 -ℤ z)) e ∙ ap passed (zero_minus x) ∙ to_z-of_z w128 (neg_ℤ x) (fits (neg_ℤ x) k (omega (arith, ints)) room)
+
+pub neg_fits : (r x : ℤ) (k : ℕ) → r ≡ x → unsigned_abs x ≤ k → k < 2 ^ 127 → FitsSigned w128 (pos 0 -ℤ r)
+neg_fits r x k e h room = subst (λ z. FitsSigned w128 z) (sym (ap (λ z. pos 0 -ℤ z) e ∙ zero_minus x)) (fits (neg_ℤ x) k (omega (arith, ints)) room)
+
+-- a part of a call's result that is known to be z
+pub settled : (r z : ℤ) (k : ℕ) → r ≡ z → unsigned_abs z ≤ k → k < 2 ^ 127 → passed r ≡ z
+settled r z k e h room = ap passed e ∙ to_z-of_z w128 z (fits z k h room)

@@ -1,8 +1,10 @@
-ghost use Rattle.std.specs.Prelude.{◌≡◌, ℕ, ℤ, pos, ◌+◌, ◌*◌, ◌^◌, ◌≤◌, ◌<ℤ◌, unsigned_abs};
-ghost use Rattle.interval_specs.specs.Ends.{Ends, IsHeld, size_of};
-ghost use Rattle.interval_specs.specs.Operations.{ratio_at, sum_of, difference_of, multiple_of, cut_low_at, hull_of};
+ghost use Rattle.std.specs.Prelude.{◌≡◌, ℕ, ℤ, pos, ◌*◌, ◌^◌, ◌≤◌, ◌<ℤ◌, unsigned_abs};
+ghost use Rattle.interval_specs.specs.Ends.{Ends, IsHeld};
+ghost use Rattle.interval_specs.specs.Rounding.{floor_over, ceil_over};
+ghost use Rattle.fix_bounds.specs.CanRound.{CanRound};
+ghost use Rattle.interval_specs.specs.Operations.{ratio_at};
 
-use crate::rounds::{ceil_after, floor};
+use crate::rounds::{ceil, ceil_after, floor};
 use crate::scale::Scale;
 use std::marker::{Model, PhantomData};
 
@@ -47,8 +49,7 @@ impl<S: Scale> Iv<S> {
         ensures held { IsHeld result }
     {
         let units = p * S::UNIT;
-        let low = floor(units, q);
-        Self::of_ends(low, ceil_after(low, units, q))
+        Self::rounded(units, units, q)
     }
 
     /// The lower end, in parts of the scale.
@@ -67,51 +68,17 @@ impl<S: Scale> Iv<S> {
         self.hi
     }
 
-    /// The sum of the two.
-    pub fn add(self, other: Iv<S>) -> Iv<S>
-        requires { size_of self + size_of other ≤ 10 ^ 25 }
-        ensures is { result ≡ sum_of self other }
+    /// The quotients of both dividends by `by`, rounded outwards, by one division where they are equal.
+    pub(crate) fn rounded(low: i128, high: i128, by: i128) -> Iv<S>
+        requires { CanRound low high by }
+        ensures is { result ≡ record { lo = floor_over low (unsigned_abs by); hi = ceil_over high (unsigned_abs by) } }
         ensures held { IsHeld result }
     {
-        Self::of_ends(self.lo() + other.lo(), self.hi() + other.hi())
-    }
-
-    /// The difference of the two.
-    pub fn sub(self, other: Iv<S>) -> Iv<S>
-        requires { size_of self + size_of other ≤ 10 ^ 25 }
-        ensures is { result ≡ difference_of self other }
-        ensures held { IsHeld result }
-    {
-        Self::of_ends(self.lo() - other.hi(), self.hi() - other.lo())
-    }
-
-    /// `k` times the interval.
-    pub fn scale_by(self, k: i64) -> Iv<S>
-        requires { size_of self * unsigned_abs k ≤ 10 ^ 25 }
-        ensures is { result ≡ multiple_of k self }
-        ensures held { IsHeld result }
-    {
-        let factor = i128::from(k);
-        let one = factor * self.lo();
-        let other = factor * self.hi();
-        Self::of_ends(one.min(other), one.max(other))
-    }
-
-    /// The interval with both ends raised to the whole number `k` where they lie below it.
-    pub fn cut_low(self, k: i64) -> Iv<S>
-        requires { unsigned_abs k ≤ 10 ^ 6 }
-        ensures is { result ≡ cut_low_at S.unit k self }
-        ensures held { IsHeld result }
-    {
-        let place = i128::from(k) * S::UNIT;
-        Self::of_ends(self.lo().max(place), self.hi().max(place))
-    }
-
-    /// The least interval that holds both.
-    pub fn hull(self, other: Iv<S>) -> Iv<S>
-        ensures is { result ≡ hull_of self other }
-        ensures held { IsHeld result }
-    {
-        Self::of_ends(self.lo().min(other.lo()), self.hi().max(other.hi()))
+        let least = floor(low, by);
+        if low < high {
+            Self::of_ends(least, ceil(high, by))
+        } else {
+            Self::of_ends(least, ceil_after(least, high, by))
+        }
     }
 }

@@ -2,6 +2,9 @@
 //! upper end up, once.
 #![tactic(auto)]
 
+mod arithmetic;
+mod digits;
+mod extremes;
 mod interval;
 pub mod laws;
 mod ratios;

@@ -9,6 +9,15 @@ pub fn floor(z: i128, n: i128) -> i128
     z.div_euclid(n)
 }
 
+/// The quotient `z / n`, rounded up.
+pub fn ceil(z: i128, n: i128) -> i128
+    requires positive { pos 0 <ℤ n }
+    requires room { unsigned_abs z ≤ 10 ^ 37 }
+    ensures { result ≡ ceil_over z (unsigned_abs n) }
+{
+    -floor(-z, n)
+}
+
 /// The quotient `z / n` rounded up, from `floor`, the same quotient rounded down: it takes no second division.
 pub fn ceil_after(floor: i128, z: i128, n: i128) -> i128
     requires positive { pos 0 <ℤ n }

@@ -189,6 +189,11 @@ narrower (negsuc x) a b s h =
     by_parts (b *ℤ negsuc x) (a *ℤ negsuc x) (simp parts (omega arith))
 narrower (pos x) a b s h = absurd (omega (arith, ints))
 
+-- a number that is not negative keeps the order as a factor in front
+pub wide_front : (x a b : ℤ) → pos 0 ≤ℤ x → a ≤ℤ b → (x *ℤ a) ≤ℤ (x *ℤ b)
+wide_front (pos x) a b s h = mono_front x a b h
+wide_front (negsuc x) a b s h = absurd (omega (arith, ints))
+
 -- m times a number on one side of 0 stays there
 pub times_positive : (m : ℕ) (c y : ℤ) → 0 < m → pos 0 <ℤ c → (pos m *ℤ c) ≤ℤ y → pos 0 <ℤ y
 times_positive m (pos c) y some p h =
@@ -216,3 +221,46 @@ up_small (negsuc n) = omega arith
 pub down_small : (z : ℤ) → down z ≤ unsigned_abs z
 down_small (pos n) = omega arith
 down_small (negsuc n) = omega arith
+
+-- the least and the greatest of two pairs, of which one is nowhere above the other
+pub least_of_lower : (p q r s : ℤ) → p ≤ℤ r → q ≤ℤ s → least_of_four p q r s ≡ int_min p q
+least_of_lower p q r s h k =
+    antisym_ℤ (least_of_four p q r s) (int_min p q)
+      (min_left (int_min p q) (int_min r s))
+      (any_least (λ z. int_min p q ≤ℤ z) p q r s (min_left p q) (min_right p q) (trans_ℤ (int_min p q) p r (min_left p q) h) (trans_ℤ (int_min p q) q s (min_right p q) k))
+
+pub greatest_of_upper : (p q r s : ℤ) → p ≤ℤ r → q ≤ℤ s → greatest_of_four p q r s ≡ int_max r s
+greatest_of_upper p q r s h k =
+    antisym_ℤ (greatest_of_four p q r s) (int_max r s)
+      (any_greatest (λ z. z ≤ℤ int_max r s) p q r s (trans_ℤ p r (int_max r s) h (max_left r s)) (trans_ℤ q s (int_max r s) k (max_right r s)) (max_left r s) (max_right r s))
+      (max_right (int_max p q) (int_max r s))
+
+-- the lesser and the greater of two that stand in order
+pub min_first : (x y : ℤ) → x ≤ℤ y → int_min x y ≡ x
+min_first x y h = antisym_ℤ (int_min x y) x (min_left x y) (either_min (λ z. x ≤ℤ z) x y (refl_ℤ x) h)
+
+pub min_second : (x y : ℤ) → y ≤ℤ x → int_min x y ≡ y
+min_second x y h = antisym_ℤ (int_min x y) y (min_right x y) (either_min (λ z. y ≤ℤ z) x y h (refl_ℤ y))
+
+pub max_first : (x y : ℤ) → y ≤ℤ x → int_max x y ≡ x
+max_first x y h = antisym_ℤ (int_max x y) x (either_max (λ z. z ≤ℤ x) x y (refl_ℤ x) h) (max_left x y)
+
+pub max_second : (x y : ℤ) → x ≤ℤ y → int_max x y ≡ y
+max_second x y h = antisym_ℤ (int_max x y) y (either_max (λ z. z ≤ℤ y) x y h (refl_ℤ y)) (max_right x y)
+
+-- the least and the greatest product of numbers that are not negative
+pub least_front : (a b c d : ℤ) → pos 0 ≤ℤ a → a ≤ℤ b → pos 0 ≤ℤ c → c ≤ℤ d → least_of_four (a *ℤ c) (a *ℤ d) (b *ℤ c) (b *ℤ d) ≡ a *ℤ c
+least_front a b c d p h q k =
+    let below = wider c a b q h in
+    let side = wide_front a c d p k in
+    antisym_ℤ (least_of_four (a *ℤ c) (a *ℤ d) (b *ℤ c) (b *ℤ d)) (a *ℤ c)
+      (least_first (a *ℤ c) (a *ℤ d) (b *ℤ c) (b *ℤ d))
+      (any_least (λ z. (a *ℤ c) ≤ℤ z) (a *ℤ c) (a *ℤ d) (b *ℤ c) (b *ℤ d) (refl_ℤ (a *ℤ c)) side below (trans_ℤ (a *ℤ c) (b *ℤ c) (b *ℤ d) below (wide_front b c d (trans_ℤ (pos 0) a b p h) k)))
+
+pub greatest_back : (a b c d : ℤ) → pos 0 ≤ℤ a → a ≤ℤ b → pos 0 ≤ℤ c → c ≤ℤ d → greatest_of_four (a *ℤ c) (a *ℤ d) (b *ℤ c) (b *ℤ d) ≡ b *ℤ d
+greatest_back a b c d p h q k =
+    let above = wider d a b (trans_ℤ (pos 0) c d q k) h in
+    let side = wide_front b c d (trans_ℤ (pos 0) a b p h) k in
+    antisym_ℤ (greatest_of_four (a *ℤ c) (a *ℤ d) (b *ℤ c) (b *ℤ d)) (b *ℤ d)
+      (any_greatest (λ z. z ≤ℤ (b *ℤ d)) (a *ℤ c) (a *ℤ d) (b *ℤ c) (b *ℤ d) (trans_ℤ (a *ℤ c) (b *ℤ c) (b *ℤ d) (wider c a b q h) side) above side (refl_ℤ (b *ℤ d)))
+      (greatest_fourth (a *ℤ c) (a *ℤ d) (b *ℤ c) (b *ℤ d))

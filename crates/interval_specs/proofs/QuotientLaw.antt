@@ -2,14 +2,15 @@
 use Rattle.std.proofs.Common.{ℕ, ℤ, pos, negsuc, suc, mul-pos, ◌≡◌, ◌+◌, ◌*◌, ◌≤◌, ◌<◌, ◌*ℤ◌, ◌≤ℤ◌, ◌<ℤ◌, unsigned_abs, arith, subst, sym, mul-le-mul_left}
 use Rattle.std.proofs.lemmas.Int.{ints, by_lt_z}
 use borrow.Author.Differences.{up, down, same_in}
+use Rattle.std.specs.Int.{int_min, int_max}
 use Rattle.std.specs.Int.Signed.{<ℤ-≤ℤ_trans}
 use Rattle.interval_specs.specs.Ends.{Ends}
 use Rattle.interval_specs.specs.Encloses.{Encloses}
 use Rattle.interval_specs.specs.Operations.{quotient_at, quotient_down, quotient_up, least_of_four, greatest_of_four}
 use Rattle.interval_specs.specs.Laws.{QuotientEncloses}
-use Rattle.interval_specs.proofs.Order.{mono_by, wider, narrower, times_positive, parts, by_parts, to_parts, trans_ℤ, mono_front, size_is, size_positive, any_least, any_greatest, least_first, least_second, least_third, least_fourth, greatest_first, greatest_second, greatest_third, greatest_fourth}
+use Rattle.interval_specs.proofs.Order.{least_of_lower, greatest_of_upper, le_pos, mono_by, wider, narrower, times_positive, parts, by_parts, to_parts, trans_ℤ, mono_front, size_is, size_positive, any_least, any_greatest, least_first, least_second, least_third, least_fourth, greatest_first, greatest_second, greatest_third, greatest_fourth}
 use Rattle.interval_specs.proofs.Enclosing.{outer_ordered}
-use Rattle.interval_specs.proofs.Rounds.{floor_encloses, ceil_encloses, floor_le_ceil}
+use Rattle.interval_specs.proofs.Rounds.{floor_encloses, ceil_encloses, floor_le_ceil, floor_mono, ceil_mono}
 
 -- the floor at the fine scale, where the two quotients are compared by products
 down_finer : (n m : ℕ) (x x' y y' : ℤ) → pos 0 <ℤ y → pos 0 <ℤ y' → (y' *ℤ x) ≤ℤ (y *ℤ x') → (pos m *ℤ quotient_down n x y) ≤ℤ quotient_down (m * n) x' y'
@@ -96,3 +97,22 @@ quotient_encloses n m a b a' b' finer low p q =
         (quotient_high n m b a.hi a'.hi b'.hi g low high high' qu q.high p.high g3 g4);
       ordered = quotients_ordered (m * n) a' b' low' p.ordered
     }
+
+-- the lower end of a quotient comes from the lower end of the dividend, and the upper from the upper
+pub quotient_lower : (n : ℕ) (a b : Ends) → pos 0 <ℤ b.lo → b.lo ≤ℤ b.hi → a.lo ≤ℤ a.hi → (quotient_at n a b).lo ≡ int_min (quotient_down n a.lo b.lo) (quotient_down n a.lo b.hi)
+unfolding quotient_at
+quotient_lower n a b some o u =
+    let more = <ℤ-≤ℤ_trans some o in
+    let w = wider (pos n) a.lo a.hi (le_pos n) u in
+    least_of_lower (quotient_down n a.lo b.lo) (quotient_down n a.lo b.hi) (quotient_down n a.hi b.lo) (quotient_down n a.hi b.hi)
+      (floor_mono (a.lo *ℤ pos n) (a.hi *ℤ pos n) (unsigned_abs b.lo) (size_positive b.lo some) w)
+      (floor_mono (a.lo *ℤ pos n) (a.hi *ℤ pos n) (unsigned_abs b.hi) (size_positive b.hi more) w)
+
+pub quotient_upper : (n : ℕ) (a b : Ends) → pos 0 <ℤ b.lo → b.lo ≤ℤ b.hi → a.lo ≤ℤ a.hi → (quotient_at n a b).hi ≡ int_max (quotient_up n a.hi b.lo) (quotient_up n a.hi b.hi)
+unfolding quotient_at
+quotient_upper n a b some o u =
+    let more = <ℤ-≤ℤ_trans some o in
+    let w = wider (pos n) a.lo a.hi (le_pos n) u in
+    greatest_of_upper (quotient_up n a.lo b.lo) (quotient_up n a.lo b.hi) (quotient_up n a.hi b.lo) (quotient_up n a.hi b.hi)
+      (ceil_mono (a.lo *ℤ pos n) (a.hi *ℤ pos n) (unsigned_abs b.lo) (size_positive b.lo some) w)
+      (ceil_mono (a.lo *ℤ pos n) (a.hi *ℤ pos n) (unsigned_abs b.hi) (size_positive b.hi more) w)

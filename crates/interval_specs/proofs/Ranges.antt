@@ -73,7 +73,7 @@ pub floor_not_negative : (z : ℤ) (n : ℕ) → 0 < n → pos 0 ≤ℤ z → po
 floor_not_negative z n some h = floor_greatest z (pos 0) n some (by_parts (pos 0 *ℤ pos n) z (simp parts (let p = to_parts (pos 0) z h in omega arith)))
 
 -- a product of sizes
-product_small : (x y : ℤ) (j k : ℕ) → unsigned_abs x ≤ j → unsigned_abs y ≤ k → unsigned_abs (x *ℤ y) ≤ j * k
+pub product_small : (x y : ℤ) (j k : ℕ) → unsigned_abs x ≤ j → unsigned_abs y ≤ k → unsigned_abs (x *ℤ y) ≤ j * k
 product_small x y j k p q = subst (λ z. z ≤ j * k) (sym (unsigned_abs-mul x y)) (mul-le-mul p q)
 
 product_not_negative_ℤ : (x y : ℤ) → pos 0 ≤ℤ x → pos 0 ≤ℤ y → pos 0 ≤ℤ (x *ℤ y)
@@ -204,13 +204,12 @@ pub product_up_to : (n r j k : ℕ) (a b : Ends) → 0 < n → j * k ≤ r * n �
 product_up_to n r j k a b some h s t =
     up_to_of_sized r (product_at n a b) (product_not_negative n a b some s.not_negative s.ordered t.not_negative t.ordered) (product_sized n r j k a b some h (sized_of_up_to j a s) (sized_of_up_to k b t))
 
-pub square_sized : (n r k : ℕ) (a : Ends) → 0 < n → k * k ≤ r * n → Sized k a → Sized r (square_at n a)
+pub square_sized : (n r k : ℕ) (a : Ends) → 0 < n → k * k ≤ r * n → size_of a ≤ k → Sized r (square_at n a)
 unfolding square_at
-square_sized n r k a some h s =
+square_sized n r k a some h t =
     let l = least_size a in
     let g = size_of a in
     let o : l ≤ g = least_size_small a in
-    let t : g ≤ k = s.small in
     let low : l * l ≤ g * g = mul-le-mul o o in
     let high : g * g ≤ k * k = mul-le-mul t t in
     rounded_sized (pos (l * l)) (pos (g * g)) n r some (omega (arith, ints)) (omega arith) (omega arith)
@@ -219,10 +218,10 @@ pub square_not_negative : (n : ℕ) (a : Ends) → 0 < n → pos 0 ≤ℤ (squar
 unfolding square_at
 square_not_negative n a some = floor_not_negative (pos (least_size a * least_size a)) n some (le_pos (least_size a * least_size a))
 
-pub square_up_to : (n r k : ℕ) (a : Ends) → 0 < n → k * k ≤ r * n → Sized k a → UpTo r (square_at n a)
+pub square_up_to : (n r k : ℕ) (a : Ends) → 0 < n → k * k ≤ r * n → size_of a ≤ k → UpTo r (square_at n a)
 square_up_to n r k a some h s = up_to_of_sized r (square_at n a) (square_not_negative n a some) (square_sized n r k a some h s)
 
-pub absolute_up_to : (k : ℕ) (a : Ends) → Sized k a → UpTo k (absolute_of a)
+pub absolute_up_to : (k : ℕ) (a : Ends) → size_of a ≤ k → UpTo k (absolute_of a)
 unfolding absolute_of
 absolute_up_to k a s = record { not_negative = le_pos (least_size a); ordered = let o = least_size_small a in omega (arith, ints); below = omega (arith, ints) }
 

@@ -1,11 +1,11 @@
 -- Rounding down and up by their inequalities: nothing above this file looks into the two functions.
-use Rattle.std.proofs.Common.{ℕ, ℤ, pos, negsuc, suc, ◌≡◌, ◌+◌, ◌*◌, ◌/◌, ◌%◌, ◌≤◌, ◌<◌, ◌+ℤ◌, ◌*ℤ◌, neg_ℤ, ◌<ℤ◌, ◌≤ℤ◌, arith, mul-le-mul_left, div-add-mod', mod-lt, add-one-le, unsigned_abs, refl, ap, subst, sym}
+use Rattle.std.proofs.Common.{ℕ, ℤ, pos, negsuc, suc, ◌≡◌, ◌+◌, ◌*◌, ◌/◌, ◌%◌, ◌≤◌, ◌<◌, ◌+ℤ◌, ◌*ℤ◌, neg_ℤ, ◌<ℤ◌, ◌≤ℤ◌, arith, mul-le-mul_left, div-add-mod', mod-lt, add-one-le, unsigned_abs, refl, ap, subst, sym, div-le_self}
 use Rattle.std.proofs.lemmas.Int.{ints, by_lt_z}
 use Rattle.std.proofs.lemmas.Nat.{le-div, div_below}
 use Rattle.std.specs.Int.{int_div_euclid}
 use borrow.Author.Differences.{up, down, sum_is_lem}
 use Rattle.interval_specs.specs.Rounding.{floor_over, ceil_over}
-use Rattle.interval_specs.proofs.Order.{parts, by_parts, by_parts_lt, to_parts, to_parts_lt, cancel_front, mono_front, antisym_ℤ}
+use Rattle.interval_specs.proofs.Order.{parts, by_parts, by_parts_lt, to_parts, to_parts_lt, cancel_front, mono_front, antisym_ℤ, trans_ℤ}
 
 -- the floor is at most the quotient
 pub floor_below : (z : ℤ) (n : ℕ) → 0 < n → (floor_over z n *ℤ pos n) ≤ℤ z
@@ -148,3 +148,51 @@ ceil_next f z n some e h =
     ceil_is z (f +ℤ pos 1) n some
       (by_parts z ((f +ℤ pos 1) *ℤ pos n) (simp parts (omega arith)))
       (by_parts_lt ((f +ℤ pos 1) *ℤ pos n) (z +ℤ pos n) (simp parts (omega arith)))
+
+-- a greater dividend has no lesser floor, and no lesser ceiling
+pub floor_mono : (z y : ℤ) (n : ℕ) → 0 < n → z ≤ℤ y → floor_over z n ≤ℤ floor_over y n
+floor_mono z y n some h = floor_greatest y (floor_over z n) n some (trans_ℤ (floor_over z n *ℤ pos n) z y (floor_below z n some) h)
+
+pub ceil_mono : (z y : ℤ) (n : ℕ) → 0 < n → z ≤ℤ y → ceil_over z n ≤ℤ ceil_over y n
+ceil_mono z y n some h = ceil_least z (ceil_over y n) n some (trans_ℤ z y (ceil_over y n *ℤ pos n) h (ceil_above y n some))
+
+-- a greater factor of a number that is not negative, and of one that is not positive
+factor_up : (k : ℤ) (c d : ℕ) → pos 0 ≤ℤ k → c ≤ d → (k *ℤ pos c) ≤ℤ (k *ℤ pos d)
+factor_up (pos k) c d p h = let m = mul-le-mul_left k h in by_parts (pos k *ℤ pos c) (pos k *ℤ pos d) (simp parts (omega arith))
+factor_up (negsuc k) c d p h = absurd (omega (arith, ints))
+
+factor_down : (k : ℤ) (c d : ℕ) → k ≤ℤ pos 0 → c ≤ d → (k *ℤ pos d) ≤ℤ (k *ℤ pos c)
+factor_down (pos k) c d p h =
+    let zero : k ≡ 0 = omega (arith, ints) in
+    let m = ap (λ (t : ℕ). t * c) zero in
+    let n = ap (λ (t : ℕ). t * d) zero in
+    by_parts (pos k *ℤ pos d) (pos k *ℤ pos c) (simp parts (omega arith))
+factor_down (negsuc k) c d p h = let m = mul-le-mul_left (suc k) h in by_parts (negsuc k *ℤ pos d) (negsuc k *ℤ pos c) (simp parts (omega arith))
+
+-- the floor of a number that is not positive is not either
+floor_not_positive : (z : ℤ) (n : ℕ) → z ≤ℤ pos 0 → floor_over z n ≤ℤ pos 0
+unfolding floor_over
+floor_not_positive (pos a) n p = let l = div-le_self a n in omega (arith, ints)
+floor_not_positive (negsuc a) n p = omega (arith, ints)
+
+-- a greater divisor brings a quotient nearer to 0
+pub floor_far : (z : ℤ) (c d : ℕ) → 0 < c → c ≤ d → pos 0 ≤ℤ z → floor_over z d ≤ℤ floor_over z c
+floor_far z c d some h p =
+    let more : 0 < d = omega arith in
+    let k = floor_over z d in
+    let s = floor_greatest z (pos 0) d more (by_parts (pos 0 *ℤ pos d) z (simp parts (let q = to_parts (pos 0) z p in omega arith))) in
+    floor_greatest z k c some (trans_ℤ (k *ℤ pos c) (k *ℤ pos d) z (factor_up k c d s h) (floor_below z d more))
+
+pub floor_near_0 : (z : ℤ) (c d : ℕ) → 0 < c → c ≤ d → z ≤ℤ pos 0 → floor_over z c ≤ℤ floor_over z d
+floor_near_0 z c d some h p =
+    let more : 0 < d = omega arith in
+    let k = floor_over z c in
+    floor_greatest z k d more (trans_ℤ (k *ℤ pos d) (k *ℤ pos c) z (factor_down k c d (floor_not_positive z c p) h) (floor_below z c some))
+
+pub ceil_far : (z : ℤ) (c d : ℕ) → 0 < c → c ≤ d → z ≤ℤ pos 0 → ceil_over z c ≤ℤ ceil_over z d
+unfolding ceil_over
+ceil_far z c d some h p = let l = floor_far (neg_ℤ z) c d some h (omega (arith, ints)) in omega (arith, ints)
+
+pub ceil_near_0 : (z : ℤ) (c d : ℕ) → 0 < c → c ≤ d → pos 0 ≤ℤ z → ceil_over z d ≤ℤ ceil_over z c
+unfolding ceil_over
+ceil_near_0 z c d some h p = let l = floor_near_0 (neg_ℤ z) c d some h (omega (arith, ints)) in omega (arith, ints)

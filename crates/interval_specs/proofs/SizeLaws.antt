@@ -1,12 +1,14 @@
 -- The laws of a size and of a square.
-use Rattle.std.proofs.Common.{ℕ, ℤ, pos, negsuc, ◌≡◌, Bool, true, false, ◌&&◌, ◌+◌, ◌*◌, ◌≤◌, ◌<◌, ◌*ℤ◌, ◌≤ℤ◌, ◌<ℤ◌, unsigned_abs, min, max, int_le, if◌then◌else◌, arith, subst, sym, mul-pos, mul-le-mul, mul-le-mul_left, ap, refl}
-use Rattle.std.proofs.lemmas.Int.{ints, by_lt_z}
+use Rattle.std.proofs.Common.{ℕ, ℤ, pos, negsuc, ◌≡◌, Bool, true, false, ◌&&◌, ◌+◌, ◌*◌, ◌≤◌, ◌<◌, ◌*ℤ◌, ◌≤ℤ◌, ◌<ℤ◌, unsigned_abs, min, max, int_le, if◌then◌else◌, arith, subst, sym, mul-pos, mul-le-mul, mul-le-mul_left, ap, refl, neg_ℤ, ◌∙◌}
+use Rattle.std.proofs.lemmas.Int.{ints, clamps, by_lt_z}
+use Rattle.std.specs.Int.{int_max}
+use Rattle.interval_specs.specs.Rounding.{floor_over, ceil_over}
 use borrow.Author.Differences.{up, down}
 use Rattle.interval_specs.specs.Ends.{Ends, size_of}
 use Rattle.interval_specs.specs.Encloses.{Encloses}
 use Rattle.interval_specs.specs.Operations.{absolute_of, square_at, least_size, holds_zero}
 use Rattle.interval_specs.specs.Laws.{AbsoluteEncloses, SquareEncloses}
-use Rattle.interval_specs.proofs.Order.{up_small, down_small, parts, by_parts, to_parts, trans_ℤ, times_positive, times_negative}
+use Rattle.interval_specs.proofs.Order.{antisym_ℤ, up_small, down_small, parts, by_parts, to_parts, trans_ℤ, times_positive, times_negative}
 use Rattle.interval_specs.proofs.Sizes.{by_size}
 use Rattle.interval_specs.proofs.ProductLaw.{squared_low, squared_high}
 use Rattle.interval_specs.proofs.Rounds.{floor_encloses, ceil_encloses, floor_le_ceil}
@@ -133,3 +135,53 @@ square_encloses n m a a' some finer p =
       high = ceil_encloses m n (m * n) (pos (y * y)) (pos (y' * y')) some fine (squared_high n m (pos (y * y)) (pos (y' * y')) (omega (arith, ints)));
       ordered = floor_le_ceil (pos (x' * x')) (pos (y' * y')) (m * n) fine (omega (arith, ints))
     }
+
+-- ---- the size by its cases
+
+-- the two sizes of ends on one side of 0
+greater_above : (x y : ℤ) → pos 0 ≤ℤ x → x ≤ℤ y → pos (max (unsigned_abs x) (unsigned_abs y)) ≡ y
+greater_above (pos x) (pos y) q r = omega (arith, ints)
+greater_above (pos x) (negsuc y) q r = absurd (omega (arith, ints))
+greater_above (negsuc x) y q r = absurd (omega (arith, ints))
+
+lesser_above : (x y : ℤ) → pos 0 ≤ℤ x → x ≤ℤ y → pos (min (unsigned_abs x) (unsigned_abs y)) ≡ x
+lesser_above (pos x) (pos y) q r = omega (arith, ints)
+lesser_above (pos x) (negsuc y) q r = absurd (omega (arith, ints))
+lesser_above (negsuc x) y q r = absurd (omega (arith, ints))
+
+greater_below : (x y : ℤ) → y ≤ℤ pos 0 → x ≤ℤ y → pos (max (unsigned_abs x) (unsigned_abs y)) ≡ neg_ℤ x
+greater_below x y q r = omega (arith, ints)
+
+lesser_below : (x y : ℤ) → y ≤ℤ pos 0 → x ≤ℤ y → pos (min (unsigned_abs x) (unsigned_abs y)) ≡ neg_ℤ y
+lesser_below x y q r = omega (arith, ints)
+
+greater_around : (x y : ℤ) → x ≤ℤ pos 0 → pos 0 ≤ℤ y → pos (max (unsigned_abs x) (unsigned_abs y)) ≡ int_max y (neg_ℤ x)
+greater_around x y q r = omega (arith, ints, clamps)
+
+-- an interval that is not negative is its own size
+pub absolute_above : (a : Ends) → pos 0 ≤ℤ a.lo → a.lo ≤ℤ a.hi → absolute_of a ≡ a
+unfolding absolute_of
+absolute_above a p o =
+    let low : pos (least_size a) ≡ a.lo = by_lt_z (pos 0) a.lo
+      (λ s. ap pos (least_size_above a s) ∙ lesser_above a.lo a.hi p o)
+      (λ s. ap pos (least_size_around a s (trans_ℤ (pos 0) a.lo a.hi p o)) ∙ antisym_ℤ (pos 0) a.lo p s) in
+    λ i. record { lo = low i; hi = greater_above a.lo a.hi p o i }
+
+-- one that is not positive is turned round
+pub absolute_below : (a : Ends) → a.hi ≤ℤ pos 0 → a.lo ≤ℤ a.hi → absolute_of a ≡ record { lo = neg_ℤ a.hi; hi = neg_ℤ a.lo }
+unfolding absolute_of
+absolute_below a p o =
+    let low : pos (least_size a) ≡ neg_ℤ a.hi = by_lt_z a.hi (pos 0)
+      (λ s. ap pos (least_size_below a s) ∙ lesser_below a.lo a.hi p o)
+      (λ s. ap pos (least_size_around a (trans_ℤ a.lo a.hi (pos 0) o p) s) ∙ ap neg_ℤ (antisym_ℤ (pos 0) a.hi s p)) in
+    λ i. record { lo = low i; hi = greater_below a.lo a.hi p o i }
+
+-- one that holds 0 begins there
+pub absolute_around : (a : Ends) → a.lo ≤ℤ pos 0 → pos 0 ≤ℤ a.hi → absolute_of a ≡ record { lo = pos 0; hi = int_max a.hi (neg_ℤ a.lo) }
+unfolding absolute_of
+absolute_around a p o = λ i. record { lo = ap pos (least_size_around a p o) i; hi = greater_around a.lo a.hi p o i }
+
+-- the square is that of the size
+pub square_by_size : (n : ℕ) (a : Ends) → square_at n a ≡ record { lo = floor_over ((absolute_of a).lo *ℤ (absolute_of a).lo) n; hi = ceil_over ((absolute_of a).hi *ℤ (absolute_of a).hi) n }
+unfolding square_at absolute_of
+square_by_size n a = refl

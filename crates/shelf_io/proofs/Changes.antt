@@ -1,5 +1,5 @@
 -- a change of the file under one name, or of none, and what it leaves of the file under any name
-use Rattle.std.proofs.Common.{◌≡◌, ◌≢◌, ◌≤◌, ◌||◌, not, ℕ, Bool, true, false, Option, Some, None, List, option_map, if◌then◌else◌, is_some, IsSome, Result, Ok, Err, OnErr, is_err, refl, sym, ap, ◌∙◌, arith}
+use Rattle.std.proofs.Common.{◌≡◌, ◌≢◌, ◌≤◌, ◌||◌, not, ℕ, Bool, true, false, Option, Some, None, List, option_map, if◌then◌else◌, is_some, IsSome, Result, Ok, Err, OnErr, OnOk, is_err, refl, sym, ap, ◌∙◌, arith}
 use Rattle.std.specs.Option.{option_map_or}
 use Rattle.std.specs.Str.{bytes_eq}
 use Rattle.std.proofs.lemmas.Bool.{false≢true}
@@ -90,3 +90,8 @@ other_name n name h = not_true (bytes_eq n name) (λ e. h ((bytes_eq-Decides n n
 pub after_error : {T E P : Type 0} (result : Result T E) (fails : Bool) → is_err result ≡ fails → (fails ≡ true → P) → OnErr result P
 after_error (Ok _) fails e h = tt
 after_error (Err _) fails e h = h (sym e)
+
+-- .. and what holds where it does not fail holds after its value
+pub after_value : {T E P : Type 0} (result : Result T E) (fails : Bool) → is_err result ≡ fails → (fails ≡ false → P) → OnOk result P
+after_value (Ok _) fails e h = h (sym e)
+after_value (Err _) fails e h = tt

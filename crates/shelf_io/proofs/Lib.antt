@@ -1,7 +1,11 @@
+pub mod AppendKeeps
 pub mod Changes
+pub mod CreateKeeps
 pub mod Files
 pub mod Fronts
 pub mod Keeping
 pub mod ReadKeeps
 pub mod ReadSteps
 pub mod Shelves
+pub mod WriteSteps
+pub mod Written

@@ -25,7 +25,7 @@ read_other_kind s t name e = λ n.
     ∙ ap (λ u. option_map_or (λ f. f.writes) u s.shared_writes) (read_under s name n)
     ∙ kept_or (λ f. f.writes) with_failed_read (read_fails s name) (bytes_eq n name) (held_under n s.files) s.shared_writes (λ _. refl)
 
-shared_grows : (held : Bool) (shared : ℕ) → shared ≤ (if held then shared else one_more shared)
+pub shared_grows : (held : Bool) (shared : ℕ) → shared ≤ (if held then shared else one_more shared)
 shared_grows true shared = omega arith
 shared_grows false shared = grows_one shared
 
@@ -63,7 +63,7 @@ read_keeps_reading s t name e = λ n well.
           (same_file name n s.files) refl (told_nothing s.failing s.calls well.0) well.1,
     )
 
-held_same : (change : Held → Held) (changed q : Bool) (u : Option Held) → is_some (file_after changed q change u) ≡ is_some u
+pub held_same : (change : Held → Held) (changed q : Bool) (u : Option Held) → is_some (file_after changed q change u) ≡ is_some u
 held_same change true true None = refl
 held_same change true true (Some f) = refl
 held_same change true false u = refl

@@ -1,5 +1,5 @@
 -- what a call does to the counts of faults
-use Rattle.std.specs.Prelude.{◌≡◌, ◌≢◌, ◌+◌, ◌-◌, ◌^◌, ◌≤◌, ℕ, min, Option, List, IsSome}
+use Rattle.std.specs.Prelude.{◌≡◌, ◌≢◌, ◌+◌, ◌-◌, ◌^◌, ◌≤◌, ℕ, min, Option, Result, IsOk, List, IsSome}
 use Rattle.shelf_io.specs.Contents.{Contents, told_file}
 
 -- the count rose, or stands at its last value
@@ -14,3 +14,7 @@ pub record CountsOf (contents : Option Contents) (name : List ℕ) (before now :
 -- a name whose calls do not fail stays one, with the same count
 abbrev pub KeepsWell : (old new : List ℕ → Type 0) (before now : List ℕ → ℕ) → Type 0
 KeepsWell old new before now = (n : List ℕ) → old n → new n × (now n ≡ before n)
+
+-- where the call does not fail for this many bytes, it did not, the count stays, and nor will later calls
+abbrev pub WorksFor : {T E : Type 0} → (old new : ℕ → Type 0) (before now : ℕ) → Result T E → Type 0
+WorksFor old new before now result = (bytes : ℕ) → old bytes → IsOk result × (now ≡ before) × new bytes

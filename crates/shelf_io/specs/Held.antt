@@ -1,5 +1,5 @@
 -- the files of a shelf in memory, one after the other
-use Rattle.std.specs.Prelude.{◌+◌, ◌≤◌, ℕ, length, Option, Some, None, List, [], ◌∷◌, if◌then◌else◌, option_map}
+use Rattle.std.specs.Prelude.{◌+◌, ◌≤◌, ℕ, length, Bool, Option, Some, None, List, [], ◌∷◌, ◌++◌, if◌then◌else◌, option_map}
 use Rattle.std.specs.List.{All}
 use Rattle.std.specs.Str.{bytes_eq}
 use Rattle.shelf_io.specs.Calls.{one_more}
@@ -35,6 +35,19 @@ with_bytes bytes room file = record file { bytes = bytes; reserved = length byte
 -- a file with one more failed read
 abbrev pub with_failed_read : Held → Held
 with_failed_read file = record file { reads = one_more file.reads }
+
+-- a file with one more failed write
+abbrev pub with_failed_write : Held → Held
+with_failed_write file = record file { writes = one_more file.writes }
+
+-- a file with no bytes
+abbrev pub without_bytes : Held → Held
+without_bytes file = record file { bytes = [] }
+
+-- a file with a piece behind its bytes, and one more failed write where the call failed
+abbrev pub with_piece : Bool → List ℕ → Held → Held
+with_piece fails piece file =
+    record file { bytes = file.bytes ++ piece; writes = if fails then one_more file.writes else file.writes }
 
 -- each file has memory for so many bytes more
 abbrev pub HaveRoom : ℕ → List Held → Type 0

@@ -1,9 +1,9 @@
 -- a shelf in memory, and what its calls make of it
-use Rattle.std.specs.Prelude.{◌≡◌, ◌≤◌, ◌<◌, ◌+◌, ◌-◌, ◌^◌, ◌||◌, not, ℕ, Bool, List, [], ◌∷◌, ◌++◌, length, min, if◌then◌else◌, option_map, is_some, IsSome}
+use Rattle.std.specs.Prelude.{◌≡◌, ◌==◌, ◌&&◌, ◌≤◌, ◌<◌, ◌+◌, ◌-◌, ◌^◌, ◌||◌, not, ℕ, Bool, List, [], ◌∷◌, ◌++◌, length, take, min, if◌then◌else◌, option_map, is_some, IsSome}
 use Rattle.std.specs.Option.{option_map_or}
-use Rattle.shelf_io.specs.Calls.{one_more, is_told}
+use Rattle.shelf_io.specs.Calls.{one_more, is_told, is_refused, fitting}
 use Rattle.shelf_io.specs.Contents.{Contents}
-use Rattle.shelf_io.specs.Held.{Held, held_under, change_under, with_bytes, with_failed_read}
+use Rattle.shelf_io.specs.Held.{Held, held_under, change_under, with_bytes, with_failed_read, with_failed_write, without_bytes, with_piece}
 
 -- the files, the counts that names which are not held share, the room for appended bytes, the places for new names,
 -- how many bytes a read gives at most, how many calls there were, and the numbers of the calls that fail
@@ -71,3 +71,55 @@ read_after s name = record s {
 abbrev pub read_size : ShelfState → List ℕ → ℕ → ℕ → ℕ
 read_size s name place size =
     min s.most (min size (option_map_or (λ file. length file.bytes - place) (held_under name s.files) 0))
+
+-- the next call was told to fail, or the name is new and no place is left
+abbrev pub create_fails : ShelfState → List ℕ → Bool
+create_fails s name = is_told s.failing s.calls || (not (is_held s name) && s.places == 0)
+
+-- the shelf after a call that failed to write the name
+abbrev pub failed_write : ShelfState → List ℕ → ShelfState
+failed_write s name = record s {
+  files = change_under name with_failed_write s.files;
+  shared_writes = if is_held s name then s.shared_writes else one_more s.shared_writes;
+  calls = one_more s.calls;
+}
+
+-- the shelf after a call that emptied the file of a held name
+abbrev pub emptied : ShelfState → List ℕ → ShelfState
+emptied s name = record s { files = change_under name without_bytes s.files; calls = one_more s.calls }
+
+-- the shelf after a call that gave a new name a place, with the counts that names which are not held share
+abbrev pub added : ShelfState → List ℕ → ShelfState
+added s name = record s {
+  files = s.files ++ record { name = name; bytes = []; reserved = s.room; reads = s.shared_reads; writes = s.shared_writes } ∷ [];
+  places = s.places - 1;
+  calls = one_more s.calls;
+}
+
+-- the shelf after the next call, a create of the name
+abbrev pub create_after : ShelfState → List ℕ → ShelfState
+create_after s name = if create_fails s name then failed_write s name else (if is_held s name then emptied s name else added s name)
+
+-- the next call was told to fail, or the piece is longer than the room
+abbrev pub append_fails : ShelfState → List ℕ → Bool
+append_fails s piece = is_refused (is_told s.failing s.calls) s.room (length piece)
+
+-- how many bytes of the piece the next call adds
+abbrev pub append_size : ShelfState → List ℕ → ℕ
+append_size s piece = fitting (is_told s.failing s.calls) s.room (length piece)
+
+-- the shelf after the next call, an append of the piece to a held name
+abbrev pub append_after : ShelfState → List ℕ → List ℕ → ShelfState
+append_after s name piece = record s {
+  files = change_under name (with_piece (append_fails s piece) (take (append_size s piece) piece)) s.files;
+  room = s.room - append_size s piece;
+  calls = one_more s.calls;
+}
+
+-- the shelf with one more call that fails
+abbrev pub failing_shelf : ℕ → ShelfState → ShelfState
+failing_shelf call s = record s { failing = s.failing ++ call ∷ [] }
+
+-- the shelf with reads of at most so many bytes
+abbrev pub short_reads : ℕ → ShelfState → ShelfState
+short_reads most s = record s { most = most }

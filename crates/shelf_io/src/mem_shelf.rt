@@ -1,14 +1,16 @@
 ghost use Rattle.std.specs.Prelude.{◌≡◌, ◌≤◌, ◌<◌, ℕ, vec_len, IfOk, OnOk, OnErr, IfSome, length, option_map};
 ghost use Rattle.shelf_io.specs.Contents.{put_bytes};
 ghost use Rattle.shelf_io.specs.Held.{PlacesHaveRoom, place_of};
-ghost use Rattle.shelf_io.specs.MemShelf.{fresh_shelf, shelf_contents, shelf_with};
+ghost use Rattle.shelf_io.specs.MemShelf.{failing_shelf, fresh_shelf, shelf_contents, shelf_with, short_reads};
 
 use crate::place::Place;
 use crate::stored::Stored;
 use std::alloc::{AllocError, Global};
 use std::marker::Model;
 
+mod calls;
 mod reading;
+mod writing;
 
 /// A shelf that keeps its files in memory.
 ///
@@ -111,6 +113,23 @@ impl MemShelf {
                 Ok(())
             }
         }
+    }
+
+    /// Lets the call of this number fail. Where memory is refused, the shelf is as before.
+    pub fn fail_at(&mut self, call: u64) -> Result<(), AllocError>
+        ensures ok { OnOk result (self.new ≡ failing_shelf call self.old) }
+        ensures err { OnErr result (self.new ≡ self.old) }
+    {
+        self.failing.push(call)?;
+        Ok(())
+    }
+
+    /// Lets each read from now on give at most so many bytes.
+    pub fn read_most(&mut self, most: usize)
+        requires { 1 ≤ most }
+        ensures { self.new ≡ short_reads most self.old }
+    {
+        self.most = most;
     }
 
     /// The bytes under the name, `None` where it is not held.

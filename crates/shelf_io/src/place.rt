@@ -39,17 +39,18 @@ impl Place {
     }
 
     // The file of this name, with no bytes and these counts, in the memory of the place.
-    pub(crate) fn hold(mut self, name: &str, reads: u64, writes: u64) -> Stored
-        requires { length name.now ≤ 255 }
+    pub(crate) fn hold(mut self, name: &str, room: usize, reads: u64, writes: u64) -> Stored
+        requires short { length name.now ≤ 255 }
+        requires room { room ≤ self }
         ensures { result ≡ record {
           name = name.now;
           bytes = [];
-          reserved = self;
+          reserved = room;
           reads = reads;
           writes = writes;
         } }
     {
         self.name.push_str(name).unwrap();
-        Stored::empty(self.name, self.bytes, self.reserved, reads, writes)
+        Stored::empty(self.name, self.bytes, room, reads, writes)
     }
 }

@@ -3,7 +3,8 @@ ghost use Rattle.std.specs.Prelude.{◌≤◌, None, length, IfOk};
 use crate::failed::Failed;
 use crate::faults::noted;
 use crate::shelf::Shelf;
-use std::fs::File;
+use std::fs::{File, OpenOptions};
+use std::io::Write;
 use std::os::unix::fs::FileExt;
 use std::rt::Files;
 use std::{fs, io};
@@ -36,6 +37,16 @@ fn read<R: Files<File = File>>(rt: &R, name: &str, place: u64, into: &mut [u8]) 
     fs::open(rt, name)?.read_at(into, place)
 }
 
+fn clear<R: Files<File = File>>(rt: &R, name: &str) -> io::Result<()> {
+    fs::create(rt, name)?;
+    Ok(())
+}
+
+fn append<R: Files<File = File>>(rt: &R, name: &str, piece: &[u8]) -> io::Result<()> {
+    let mut file = OpenOptions::new().append(true).open(rt, name)?;
+    file.write_all(piece)
+}
+
 impl<R: Files<File = File> + Drop> Shelf for RealShelf<R> {
     ghost contents = { λ _. None };
 
@@ -53,5 +64,17 @@ impl<R: Files<File = File> + Drop> Shelf for RealShelf<R> {
 
     fn read_at(&mut self, name: &str, place: u64, into: &mut [u8]) -> Result<usize, Failed> {
         noted(read(&self.rt, name, place, into), &mut self.read_faults)
+    }
+
+    fn write_faults(&self, _name: &str) -> u64 {
+        self.write_faults
+    }
+
+    fn create(&mut self, name: &str) -> Result<(), Failed> {
+        noted(clear(&self.rt, name), &mut self.write_faults)
+    }
+
+    fn append(&mut self, name: &str, piece: &[u8]) -> Result<(), Failed> {
+        noted(append(&self.rt, name, piece), &mut self.write_faults)
     }
 }

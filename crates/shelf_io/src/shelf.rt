@@ -1,6 +1,7 @@
-ghost use Rattle.std.specs.Prelude.{◌≡◌, ◌≤◌, ℕ, List, Option, length, IfOk, IsOk, OnErr};
-ghost use Rattle.shelf_io.specs.Contents.{Contents};
-ghost use Rattle.shelf_io.specs.Counts.{CountsOf, KeepsWell, Rose};
+ghost use Rattle.std.specs.Prelude.{◌≡◌, ◌≤◌, ◌+◌, ℕ, List, [], Option, option_map, length, IsSome, IfOk, IsOk, OnOk, OnErr};
+ghost use Rattle.std.specs.Option.{ForSome};
+ghost use Rattle.shelf_io.specs.Contents.{AddsFrontTo, AddsTo, Contents, put_bytes};
+ghost use Rattle.shelf_io.specs.Counts.{CountsOf, KeepsWell, Rose, WorksFor};
 ghost use Rattle.shelf_io.specs.Reading.{Reads};
 
 use crate::failed::Failed;
@@ -50,4 +51,52 @@ pub trait Shelf {
         ensures keeps_writing { (bytes : ℕ) → KeepsWell
             (λ n. writes_well self.old n bytes) (λ n. writes_well self.new n bytes)
             (write_count self.old) (write_count self.new) };
+
+    /// How many writes of this name failed so far.
+    fn write_faults(&self, name: &str) -> u64
+        ensures { result ≡ write_count self.now name.now };
+
+    /// Makes the name hold no bytes, whether it was held or not.
+    fn create(&mut self, name: &str) -> Result<(), Failed>
+        requires some { 1 ≤ length name.now }
+        requires short { length name.now ≤ 255 }
+
+        ensures ok { OnOk result
+            (contents self.new ≡ option_map (put_bytes name.now []) (contents self.old)) }
+        ensures err { OnErr result (contents self.new ≡ contents self.old) }
+
+        ensures counts { CountsOf (contents self.old) name.now
+            (write_count self.old) (write_count self.new) }
+        ensures other_kind { (n : List ℕ) → read_count self.new n ≡ read_count self.old n }
+        ensures failed { OnErr result
+            (Rose (write_count self.old name.now) (write_count self.new name.now)) }
+
+        ensures works { WorksFor (writes_well self.old name.now) (writes_well self.new name.now)
+            (write_count self.old name.now) (write_count self.new name.now) result }
+        ensures keeps_reading { KeepsWell (reads_well self.old) (reads_well self.new)
+            (read_count self.old) (read_count self.new) };
+
+    /// Adds the piece to the bytes of a name that is held. After a failure, `Failed`, a front of it was added.
+    fn append(&mut self, name: &str, piece: &[u8]) -> Result<(), Failed>
+        requires { ForSome (contents self.old) (λ c. IsSome (c.file name.now)) }
+
+        ensures ok { OnOk result
+            (AddsTo name.now piece.now (contents self.old) (contents self.new)) }
+        ensures err { OnErr result
+            (AddsFrontTo name.now piece.now (contents self.old) (contents self.new)) }
+
+        ensures counts { CountsOf (contents self.old) name.now
+            (write_count self.old) (write_count self.new) }
+        ensures other_kind { (n : List ℕ) → read_count self.new n ≡ read_count self.old n }
+        ensures failed { OnErr result
+            (Rose (write_count self.old name.now) (write_count self.new name.now)) }
+
+        ensures works { (more : ℕ) →
+            writes_well self.old name.now (length piece.now + more) → IsOk result }
+        ensures keeps_writing { (more : ℕ) → KeepsWell
+            (λ n. writes_well self.old n (length piece.now + more))
+            (λ n. writes_well self.new n more)
+            (write_count self.old) (write_count self.new) }
+        ensures keeps_reading { KeepsWell (reads_well self.old) (reads_well self.new)
+            (read_count self.old) (read_count self.new) };
 }

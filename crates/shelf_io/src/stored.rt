@@ -3,7 +3,7 @@ ghost use Rattle.std.specs.Str.{bytes_eq};
 ghost use Rattle.std.specs.String.{string_bytes};
 ghost use Rattle.std.specs.Vec.{vec_capacity};
 ghost use Rattle.shelf_io.specs.Calls.{one_more};
-ghost use Rattle.shelf_io.specs.Held.{with_bytes, with_failed_read};
+ghost use Rattle.shelf_io.specs.Held.{with_bytes, with_failed_read, with_failed_write, with_piece, without_bytes};
 
 use std::alloc::{AllocError, Global};
 use std::marker::Model;
@@ -125,9 +125,39 @@ impl Stored {
         self.reads
     }
 
+    pub(crate) fn writes(&self) -> u64
+        ensures { result ≡ self.now.writes }
+    {
+        self.writes
+    }
+
     pub(crate) fn fail_read(&mut self)
         ensures { self.new ≡ with_failed_read self.old }
     {
         self.reads = self.reads.saturating_add(1);
+    }
+
+    pub(crate) fn fail_write(&mut self)
+        ensures { self.new ≡ with_failed_write self.old }
+    {
+        self.writes = self.writes.saturating_add(1);
+    }
+
+    // Takes all bytes off, and keeps their memory.
+    pub(crate) fn clear(&mut self)
+        ensures { self.new ≡ without_bytes self.old }
+    {
+        self.bytes.clear();
+    }
+
+    // Puts the piece behind the bytes, and counts a failed write where the call fails.
+    pub(crate) fn append(&mut self, piece: &[u8], fails: bool)
+        requires { length self.old.bytes + length piece.now ≤ self.old.reserved }
+        ensures { self.new ≡ with_piece fails piece.now self.old }
+    {
+        self.bytes.extend_from_slice(piece).unwrap();
+        if fails {
+            self.fail_write();
+        }
     }
 }

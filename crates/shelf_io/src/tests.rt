@@ -1,4 +1,5 @@
-use crate::{MemShelf, MemSink, Shelf, Sink, TakeFault, take_file};
+use crate::{Failed, MemShelf, MemSink, RealShelf, RealSink, Shelf, Sink, TakeFault, take_file};
+use std::fs;
 use std::test::Fail;
 
 // What `take_file` answers, as a word.
@@ -49,5 +50,69 @@ fn takes_pieces(rt: HostRuntime) -> Result<(), Fail> {
         assert_eq!(rt; sink.faults(), faults, "{piece}");
         assert_eq!(rt; sink.taken(), want.as_bytes(), "{piece}");
     }
+    Ok(())
+}
+
+// The faults of reads and of writes of the name.
+fn faults(shelf: &impl Shelf, name: &str) -> (u64, u64) {
+    (shelf.read_faults(name), shelf.write_faults(name))
+}
+
+#[test]
+fn writes_in_memory(rt: HostRuntime) -> Result<(), Fail> {
+    let mut shelf = MemShelf::empty(rt.alloc(), 9, 1)?;
+    shelf.fail_at(4)?;
+    assert_eq!(rt; shelf.create("a"), Ok(()));
+    for (piece, done, want) in [
+        ("abc", true, "abc"),
+        ("", true, "abc"),
+        ("defgh", false, "abcde"),
+        ("fghij", false, "abcdefghi"),
+    ] {
+        assert!(rt; shelf.file("a").is_some());
+        assert_eq!(rt;
+            shelf.append("a", piece.as_bytes()).is_ok(),
+            done,
+            "{piece}"
+        );
+        assert_eq!(rt; shelf.file("a"), Some(want.as_bytes()), "{piece}");
+    }
+    assert_eq!(rt; faults(&shelf, "a"), (0, 2));
+    assert_eq!(rt; shelf.create("b"), Err(Failed));
+    assert_eq!(rt; shelf.read_at("c", 0, &mut [0; 4]), Err(Failed));
+    shelf.put_file("b", b"four")?;
+    assert_eq!(rt; faults(&shelf, "b"), (1, 1));
+    assert_eq!(rt; shelf.create("a"), Ok(()));
+    assert_eq!(rt; shelf.file("a"), Some(b"".as_slice()));
+    shelf.read_most(3);
+    assert_eq!(rt; shelf.read_at("b", 0, &mut [0; 4]), Ok(3));
+    assert_eq!(rt; faults(&shelf, "a"), (0, 2));
+    Ok(())
+}
+
+#[test]
+fn reaches_the_system(rt: HostRuntime) -> Result<(), Fail> {
+    fs::write(&rt, "old.csv", "nm,p50\n")?;
+    let mut shelf = RealShelf::new(rt.clone()?);
+    let bytes = take_file(rt.alloc(), &mut shelf, "old.csv", 7)?;
+    assert_eq!(rt; bytes.as_slice(), b"nm,p50\n".as_slice());
+    assert_eq!(rt;
+        word(&take_file(rt.alloc(), &mut shelf, "old.csv", 6)),
+        "too long"
+    );
+    assert_eq!(rt;
+        word(&take_file(rt.alloc(), &mut shelf, "lost.csv", 6)),
+        "fault"
+    );
+    assert_eq!(rt; shelf.create("new.cert"), Ok(()));
+    assert_eq!(rt; shelf.append("new.cert", b"ab"), Ok(()));
+    assert_eq!(rt; shelf.append("new.cert", b"cd"), Ok(()));
+    assert_eq!(rt; shelf.append("none/new.cert", b"cd"), Err(Failed));
+    assert_eq!(rt; faults(&shelf, "old.csv"), (1, 1));
+    assert_eq!(rt; fs::read_to_string(&rt, "new.cert")?.as_str(), "abcd");
+    let mut sink = RealSink::new(fs::create(&rt, "out.txt")?);
+    assert_eq!(rt; sink.put(b"abc"), Ok(()));
+    assert_eq!(rt; sink.faults(), 0);
+    assert_eq!(rt; fs::read_to_string(&rt, "out.txt")?.as_str(), "abc");
     Ok(())
 }

@@ -1,16 +1,14 @@
-ghost use Rattle.std.specs.Prelude.{◌≡◌, ◌≤◌, ℕ, List, Some, length, take, drop, min, IfOk, IsOk, OnErr, is_err, ◌-◌};
-ghost use Rattle.shelf_io.specs.Counts.{CountsOf, KeepsWell, Rose};
-ghost use Rattle.shelf_io.specs.MemShelf.{ReadsWell, WritesWell, read_after, read_fails, read_size, shelf_contents, shelf_reads, shelf_writes};
+ghost use Rattle.std.specs.Prelude.{◌≡◌, ◌≤◌, Some, length, take, drop, min, IfOk, is_err, ◌-◌};
+ghost use Rattle.shelf_io.specs.MemShelf.{read_after, read_fails, read_size, shelf_contents};
 ghost use Rattle.shelf_io.specs.Reading.{Reads};
 
 use super::{MemShelf, place_of};
 use crate::calls::is_told;
 use crate::failed::Failed;
-use crate::shelf::Shelf;
 
 impl MemShelf {
     // The next call: a read of the name.
-    fn read(&mut self, name: &str, place: u64, into: &mut [u8]) -> Result<usize, Failed>
+    pub(super) fn read(&mut self, name: &str, place: u64, into: &mut [u8]) -> Result<usize, Failed>
         ensures exact { is_err result ≡ read_fails self.old name.now }
         ensures size { IfOk result
             (λ count. count ≡ read_size self.old name.now place (length into.new)) }
@@ -46,49 +44,4 @@ fn copy(bytes: &[u8], place: u64, most: usize, into: &mut [u8]) -> usize
     let size = most.min(into.len().min(rest.len()));
     into[..size].copy_from_slice(&rest[..size]);
     size
-}
-
-impl Shelf for MemShelf {
-    ghost contents = { λ s. Some (shelf_contents s) };
-
-    ghost read_count = { shelf_reads };
-
-    ghost write_count = { shelf_writes };
-
-    ghost reads_well = { ReadsWell };
-
-    ghost writes_well = { WritesWell };
-
-    fn read_faults(&self, name: &str) -> u64 {
-        match place_of(&self.files, name) {
-            Some(at) => self.files[at].reads(),
-            None => self.shared_reads,
-        }
-    }
-
-    fn read_at(&mut self, name: &str, place: u64, into: &mut [u8]) -> Result<usize, Failed>
-        ensures exact { is_err result ≡ read_fails self.old name.now }
-        ensures size { IfOk result
-            (λ count. count ≡ read_size self.old name.now place (length into.new)) }
-        ensures after { self.new ≡ read_after self.old name.now }
-
-        ensures same { Some (shelf_contents self.new) ≡ Some (shelf_contents self.old) }
-        ensures most { IfOk result (λ count. count ≤ length into.new) }
-        ensures bytes { Reads (Some (shelf_contents self.old)) name.now place result into.new }
-
-        ensures counts { CountsOf (Some (shelf_contents self.old)) name.now
-            (shelf_reads self.old) (shelf_reads self.new) }
-        ensures other_kind { (n : List ℕ) → shelf_writes self.new n ≡ shelf_writes self.old n }
-        ensures failed { OnErr result
-            (Rose (shelf_reads self.old name.now) (shelf_reads self.new name.now)) }
-
-        ensures works { ReadsWell self.old name.now → IsOk result }
-        ensures keeps_reading { KeepsWell (ReadsWell self.old) (ReadsWell self.new)
-            (shelf_reads self.old) (shelf_reads self.new) }
-        ensures keeps_writing { (bytes : ℕ) → KeepsWell
-            (λ n. WritesWell self.old n bytes) (λ n. WritesWell self.new n bytes)
-            (shelf_writes self.old) (shelf_writes self.new) }
-    {
-        self.read(name, place, into)
-    }
 }

@@ -1,5 +1,5 @@
 use Rattle.shelf_io.proofs.Files.{read_there, read_nowhere}
-use Rattle.shelf_io.proofs.mem_shelf.reading.MemShelfShelf.read_faults.Goals as goal
+use Rattle.shelf_io.proofs.mem_shelf.calls.MemShelfShelf.read_faults.Goals as goal
 
 pub returns-in-Some : goal.returns-in-Some
 returns-in-Some c =

@@ -1,6 +1,6 @@
 use Rattle.shelf_io.proofs.Changes.{after_error}
 use Rattle.shelf_io.proofs.ReadKeeps.{read_contents, read_counts, read_other_kind, read_rose, read_keeps_reading, read_keeps_writing}
-use Rattle.shelf_io.proofs.mem_shelf.reading.MemShelfShelf.read_at.Goals as goal
+use Rattle.shelf_io.proofs.mem_shelf.calls.MemShelfShelf.read_at.Goals as goal
 
 pub returns-clause-same : goal.returns-clause-same
 returns-clause-same c = read_contents _ _ c.args.name.now c.read.ensures.after
