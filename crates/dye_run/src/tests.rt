@@ -26,6 +26,18 @@ fn curve_file(
     Ok(text)
 }
 
+fn owned(alloc: Global, words: &[&str]) -> Result<Vec<String>, Fail> {
+    let mut all = Vec::new(alloc);
+    for word in words {
+        all.push(String::from_str(alloc, word)?)?;
+    }
+    Ok(all)
+}
+
+fn text_of(rt: &impl Abort, alloc: Global, out: &MemSink) -> Result<String, Fail> {
+    Ok(String::from_utf8(Vec::from_slice(alloc, out.taken())?).expect(rt, "text"))
+}
+
 /// What the program said of these words over one file, and its status.
 fn said(
     rt: &impl Abort,
@@ -37,13 +49,8 @@ fn said(
     let mut shelf = MemShelf::empty(alloc, 0, 0)?;
     shelf.put_file(name, bytes)?;
     let mut out = MemSink::empty(alloc, 100_000)?;
-    let mut owned = Vec::new(alloc);
-    for word in words {
-        owned.push(String::from_str(alloc, word)?)?;
-    }
-    let status = run(alloc, owned.as_slice(), &mut shelf, &mut out);
-    let text = String::from_utf8(Vec::from_slice(alloc, out.taken())?).expect(rt, "text");
-    Ok((status, text))
+    let status = run(alloc, owned(alloc, words)?.as_slice(), &mut shelf, &mut out);
+    Ok((status, text_of(rt, alloc, &out)?))
 }
 
 /// The same pair of ends at each wavelength.
@@ -169,5 +176,60 @@ fn no_words_and_a_long_file(rt: HostRuntime) -> Result<(), Fail> {
     let (status, text) = said(&rt, alloc, &words, "flat.csv", long.as_slice())?;
     assert_eq!(rt; status, 3);
     assert_eq!(rt; text.as_str(), "refused flat.csv TooLong\n");
+    Ok(())
+}
+
+/// `ks flat.csv p50` where the shelf's and the sink's calls of these numbers fail: the status and the text. The file
+/// stays as it was.
+fn ks_under_faults(
+    rt: &impl Abort,
+    alloc: Global,
+    shelf_call: u64,
+    sink_call: u64,
+    most: usize,
+) -> Result<(u8, String), Fail> {
+    let file = curve_file(alloc, HEADER, FLAT, FLAT, 700)?;
+    let mut shelf = MemShelf::empty(alloc, 0, 0)?;
+    shelf.put_file("flat.csv", file.as_bytes())?;
+    shelf.fail_at(shelf_call)?;
+    if most > 0 {
+        shelf.read_most(most);
+    }
+    let mut out = MemSink::empty(alloc, 100_000)?;
+    out.fail_at(sink_call)?;
+    let words = owned(alloc, &["ks", "flat.csv", "p50"])?;
+    let status = run(alloc, words.as_slice(), &mut shelf, &mut out);
+    assert!(rt; shelf.file("flat.csv") == Some(file.as_bytes()));
+    Ok((status, text_of(rt, alloc, &out)?))
+}
+
+#[test]
+fn what_stands_after_a_fault(rt: HostRuntime) -> Result<(), Fail> {
+    let alloc = rt.alloc();
+    let all = every_line(alloc, "0.250000000000..0.250000000000")?;
+    let half = String::from_str(alloc, &all.as_str()[..542])?;
+    assert_eq!(rt; all.len(), 1085);
+    let unreadable = "unreadable flat.csv\n";
+    for (shelf_call, sink_call, most, status, text) in [
+        // a failed read, and reads behind the last one
+        (1, 9, 0, 2, unreadable),
+        (2, 9, 0, 2, unreadable),
+        (3, 9, 0, 0, all.as_str()),
+        // a failed put takes half of its piece
+        (9, 1, 0, 4, half.as_str()),
+        (9, 2, 0, 0, all.as_str()),
+        // both
+        (1, 1, 0, 4, "unrea"),
+        (1, 2, 0, 4, "unreadable flat"),
+        (1, 3, 0, 4, "unreadable flat.csv"),
+        (1, 4, 0, 2, unreadable),
+        // reads that come a byte at a time
+        (0, 9, 1, 0, all.as_str()),
+        (100, 9, 1, 2, unreadable),
+    ] {
+        let (got, said) = ks_under_faults(&rt, alloc, shelf_call, sink_call, most)?;
+        assert_eq!(rt; got, status, "{shelf_call} {sink_call}");
+        assert_eq!(rt; said.as_str(), text, "{shelf_call} {sink_call}");
+    }
     Ok(())
 }
