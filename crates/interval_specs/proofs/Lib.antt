@@ -13,3 +13,4 @@ pub mod Laws
 pub mod Ranges
 pub mod Roots
 pub mod RootLaws
+pub mod RootRanges

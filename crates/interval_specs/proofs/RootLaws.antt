@@ -8,7 +8,7 @@ use Rattle.interval_specs.proofs.Order.{trans_ℤ}
 use Rattle.interval_specs.proofs.Roots.{IsPower, square_power, cube_power, below_fits, below_greatest, above_fits, above_least, below_le_above}
 
 -- m coarse parts of the square root below are within the fine square root below, and likewise above
-sqrt_low : (n m a a' : ℕ) → m * a ≤ a' → m * root_below square (a * n) ≤ root_below square (a' * (m * n))
+pub sqrt_low : (n m a a' : ℕ) → m * a ≤ a' → m * root_below square (a * n) ≤ root_below square (a' * (m * n))
 sqrt_low n m a a' h =
     let r = root_below square (a * n) in
     let f = below_fits square square_power (a * n) in
@@ -16,7 +16,7 @@ sqrt_low n m a a' h =
     let q = mul-le-mul_left (m * n) h in
     below_greatest square square_power (a' * (m * n)) (m * r) (omega arith)
 
-sqrt_high : (n m b b' : ℕ) → b' ≤ m * b → root_above square (b' * (m * n)) ≤ m * root_above square (b * n)
+pub sqrt_high : (n m b b' : ℕ) → b' ≤ m * b → root_above square (b' * (m * n)) ≤ m * root_above square (b * n)
 sqrt_high n m b b' h =
     let r = root_above square (b * n) in
     let f = above_fits square square_power (b * n) in
@@ -24,7 +24,7 @@ sqrt_high n m b b' h =
     let q = mul-le-mul_left (m * n) h in
     above_least square square_power (b' * (m * n)) (m * r) (omega arith)
 
-cbrt_low : (n m a a' : ℕ) → m * a ≤ a' → m * root_below cube (a * (n * n)) ≤ root_below cube (a' * ((m * n) * (m * n)))
+pub cbrt_low : (n m a a' : ℕ) → m * a ≤ a' → m * root_below cube (a * (n * n)) ≤ root_below cube (a' * ((m * n) * (m * n)))
 cbrt_low n m a a' h =
     let r = root_below cube (a * (n * n)) in
     let f = below_fits cube cube_power (a * (n * n)) in
@@ -32,7 +32,7 @@ cbrt_low n m a a' h =
     let q = mul-le-mul_left ((m * n) * (m * n)) h in
     below_greatest cube cube_power (a' * ((m * n) * (m * n))) (m * r) (omega arith)
 
-cbrt_high : (n m b b' : ℕ) → b' ≤ m * b → root_above cube (b' * ((m * n) * (m * n))) ≤ m * root_above cube (b * (n * n))
+pub cbrt_high : (n m b b' : ℕ) → b' ≤ m * b → root_above cube (b' * ((m * n) * (m * n))) ≤ m * root_above cube (b * (n * n))
 cbrt_high n m b b' h =
     let r = root_above cube (b * (n * n)) in
     let f = above_fits cube cube_power (b * (n * n)) in

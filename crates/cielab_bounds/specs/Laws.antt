@@ -1,0 +1,19 @@
+-- The laws: f and the coordinates keep enclosing where the scale grows from n to m * n and the ratios narrow.
+use Rattle.std.specs.Prelude.{ℕ, pos, ◌*◌, ◌<◌, ◌≤ℤ◌}
+use Rattle.interval_specs.specs.Ends.{Ends}
+use Rattle.interval_specs.specs.Encloses.{Encloses}
+use Rattle.cielab_bounds.specs.Cielab.{f_at, LabEnds, lab_at}
+
+-- each coordinate encloses the finer one
+pub record EnclosesLab (m : ℕ) (p q : LabEnds) : Type 0 where
+  pub l : Encloses m p.l q.l
+  pub a : Encloses m p.a q.a
+  pub b : Encloses m p.b q.b
+
+abbrev pub FEncloses : Type 0
+FEncloses = (n m : ℕ) (t t' : Ends) → 0 < m → pos 0 ≤ℤ t.lo → Encloses m t t' → Encloses m (f_at n t) (f_at (m * n) t')
+
+abbrev pub LabEncloses : Type 0
+LabEncloses =
+    (n m : ℕ) (x y z x' y' z' : Ends) → 0 < m → pos 0 ≤ℤ x.lo → pos 0 ≤ℤ y.lo → pos 0 ≤ℤ z.lo
+    → Encloses m x x' → Encloses m y y' → Encloses m z z' → EnclosesLab m (lab_at n x y z) (lab_at (m * n) x' y' z')

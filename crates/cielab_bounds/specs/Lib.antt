@@ -1,0 +1,2 @@
+pub mod Cielab
+pub mod Laws

@@ -1,0 +1,14 @@
+//! CIELAB coordinates as intervals, from tristimulus ratios (CIE 15).
+#![tactic(auto)]
+
+mod bend;
+mod conversion;
+mod coordinates;
+pub mod laws;
+
+pub use bend::f_iv;
+pub use conversion::lab;
+pub use coordinates::Lab;
+
+#[cfg(test)]
+mod tests;

@@ -1,0 +1,63 @@
+ghost use Rattle.std.specs.Prelude.{ℕ, pos, ◌*◌, ◌^◌, ◌≤ℤ◌};
+ghost use Rattle.interval_specs.specs.Ranges.{UpTo};
+
+use super::*;
+use fix_bounds::{Base, Iv, Quick, Ratios, Scale};
+
+fn at<S: Scale>(parts: i128) -> Iv<S>
+    requires not_below { pos 0 ≤ℤ parts }
+    requires size { parts ≤ℤ pos (3 * S.unit) }
+    ensures { UpTo (3 * S.unit) result }
+{
+    Iv::of_ends(parts, parts)
+}
+
+fn colour<S: Scale>(x: Iv<S>, y: Iv<S>, z: Iv<S>) -> Lab<S>
+    requires x { UpTo (3 * S.unit) x }
+    requires y { UpTo (3 * S.unit) y }
+    requires z { UpTo (3 * S.unit) z }
+{
+    lab(&Ratios { x, y, z })
+}
+
+fn ends<S: Scale>(x: Iv<S>) -> (i128, i128) {
+    (x.lo(), x.hi())
+}
+
+#[test]
+fn colours(rt: HostRuntime) {
+    // the white itself, and greys of an eighth and of 0.008, which is on the straight part
+    let white = colour::<Base>(
+        at(1_000_000_000_000),
+        at(1_000_000_000_000),
+        at(1_000_000_000_000),
+    );
+    assert_eq!(rt; ends(white.l), (100_000_000_000_000, 100_000_000_000_000));
+    assert_eq!(rt; (ends(white.a), ends(white.b)), ((0, 0), (0, 0)));
+    let grey = colour::<Base>(
+        at(125_000_000_000),
+        at(125_000_000_000),
+        at(125_000_000_000),
+    );
+    assert_eq!(rt; ends(grey.l), (42_000_000_000_000, 42_000_000_000_000));
+    let dark = colour::<Base>(at(8_000_000_000), at(8_000_000_000), at(8_000_000_000));
+    assert_eq!(rt; ends(dark.l), (7_226_370_370_364, 7_226_370_370_480));
+    assert_eq!(rt; (ends(dark.a), ends(dark.b)), ((-500, 500), (-200, 200)));
+    // cube roots of 0.56, 0.5 and 0.3, at the coarser scale
+    let red = colour::<Quick>(at(17_561_600), at(12_500_000), at(2_700_000));
+    assert_eq!(rt; ends(red.l), (4_200_000_000, 4_200_000_000));
+    assert_eq!(rt;
+        (ends(red.a), ends(red.b)),
+        (
+            (3_000_000_000, 3_000_000_000),
+            (4_000_000_000, 4_000_000_000)
+        )
+    );
+}
+
+#[test]
+fn bend(rt: HostRuntime) {
+    // 216/24389 lies between these two ends: the lower is on the straight part, the upper on the root
+    let bent: Iv<Quick> = f_iv(Iv::of_ends(885_645, 885_646));
+    assert_eq!(rt; ends(bent), (20_689_653, 20_689_662));
+}
