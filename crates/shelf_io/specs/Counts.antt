@@ -15,6 +15,6 @@ pub record CountsOf (contents : Option Contents) (name : List ℕ) (before now :
 abbrev pub KeepsWell : (old new : List ℕ → Type 0) (before now : List ℕ → ℕ) → Type 0
 KeepsWell old new before now = (n : List ℕ) → old n → new n × (now n ≡ before n)
 
--- where the call does not fail for this many bytes, it did not, the count stays, and nor will later calls
+-- where so many bytes could be written with no failure, the call did not fail, the count stays, and they still can
 abbrev pub WorksFor : {T E : Type 0} → (old new : ℕ → Type 0) (before now : ℕ) → Result T E → Type 0
 WorksFor old new before now result = (bytes : ℕ) → old bytes → IsOk result × (now ≡ before) × new bytes

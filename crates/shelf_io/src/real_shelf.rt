@@ -1,4 +1,4 @@
-ghost use Rattle.std.specs.Prelude.{◌≤◌, None, length, IfOk};
+ghost use Rattle.std.specs.Prelude.{◌≡◌, ◌≤◌, ℕ, List, None, length, IfOk};
 
 use crate::failed::Failed;
 use crate::faults::noted;
@@ -21,8 +21,11 @@ pub struct RealShelf<R> {
 }
 
 impl<R: Files<File = File> + Drop> RealShelf<R> {
-    /// The shelf over this runtime.
-    pub fn new(rt: R) -> RealShelf<R> {
+    /// The shelf over this runtime, with no failure yet.
+    pub fn new(rt: R) -> RealShelf<R>
+        ensures reads { (n : List ℕ) → ⟦<RealShelf<R> as Shelf>⟧.read_count result n ≡ 0 }
+        ensures writes { (n : List ℕ) → ⟦<RealShelf<R> as Shelf>⟧.write_count result n ≡ 0 }
+    {
         RealShelf {
             rt,
             read_faults: 0,

@@ -1,4 +1,4 @@
-ghost use Rattle.std.specs.Prelude.{None};
+ghost use Rattle.std.specs.Prelude.{◌≡◌, None};
 
 use crate::failed::Failed;
 use crate::faults::noted;
@@ -16,8 +16,10 @@ pub struct RealSink<W> {
 }
 
 impl<W: Write + Drop> RealSink<W> {
-    /// The sink over this writer.
-    pub fn new(out: W) -> RealSink<W> {
+    /// The sink over this writer, with no failure yet.
+    pub fn new(out: W) -> RealSink<W>
+        ensures { ⟦<RealSink<W> as Sink>⟧.fault_count result ≡ 0 }
+    {
         RealSink { out, faults: 0 }
     }
 }

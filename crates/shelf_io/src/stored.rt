@@ -55,16 +55,10 @@ impl Stored {
           writes = writes;
         }) }
     {
-        let reserved = bytes.len().checked_add(room).ok_or(AllocError)?;
-        let mut buffer = Vec::with_capacity(alloc, reserved)?;
-        buffer.extend_from_slice(bytes)?;
-        Ok(Stored {
-            name: String::from_str(alloc, name)?,
-            bytes: buffer,
-            reserved,
-            reads,
-            writes,
-        })
+        let name = String::from_str(alloc, name)?;
+        let mut file = Stored::empty(name, Vec::new(alloc), 0, reads, writes);
+        file.put(alloc, bytes, room)?;
+        Ok(file)
     }
 
     // A file with no bytes in this buffer, which has room for so many.
