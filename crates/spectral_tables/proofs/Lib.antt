@@ -1,4 +1,6 @@
 pub mod BookFacts
 pub mod ColumnFacts
+pub mod FoldFacts
 pub mod NameFacts
 pub mod RecordFacts
+pub mod SumFacts

@@ -7,3 +7,7 @@ pub mod Curve
 pub mod CurveBook
 pub mod CurveFile
 pub mod Rows
+pub mod Weighing
+pub mod Fold
+pub mod Run
+pub mod WeightFile

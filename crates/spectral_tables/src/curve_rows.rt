@@ -39,7 +39,7 @@ fn values(alloc: Global, row: u32, fields: &[&[u8]]) -> Result<Vec<u32>, TableEr
     Ok(values)
 }
 
-fn first_field<'a>(fields: &[&'a [u8]]) -> &'a [u8]
+pub(crate) fn first_field<'a>(fields: &[&'a [u8]]) -> &'a [u8]
     ensures { result.now ≡ first_field (map (λ f. f.now) fields.now) }
 {
     match fields {

@@ -8,16 +8,24 @@ mod curve_file;
 mod curve_header;
 mod curve_rows;
 mod fault;
+mod folding;
 mod name;
 mod numbers;
 mod records;
+mod run;
 mod trim;
+mod weight_file;
+mod weight_rows;
+mod weights;
 
 pub use curve::Curve;
 pub use curve_book::CurveBook;
 pub use curve_file::read_curves;
 pub use fault::{TableError, TableFault, TableRule};
+pub use folding::fold;
 pub use name::is_name;
+pub use weight_file::read_weights;
+pub use weights::Weights;
 
 #[cfg(test)]
 mod tests;

@@ -6,39 +6,40 @@ const HEADER: &str = "nm,p100,p50,p30,p12,p6,p08,p001";
 
 const VALUES: &str = "100,50,30,12.5,6.4,0.8,0.01";
 
-// A table of so many lines by 10 nm from 400 on, the first of them with its own values.
-fn table(
-    alloc: Global,
-    header: &str,
-    first: &str,
-    values: &str,
-    lines: u32,
-) -> Result<String, AllocError> {
-    let mut text = format!(in alloc; "{header}\n")?;
-    for i in 0..lines.min(40) {
-        let nm = 400 + 10 * i;
-        if i == 0 {
-            write!(text, "{nm},{first}\n")?;
-        } else {
-            write!(text, "{nm},{values}\n")?;
-        }
+// The header, a line with its own values at 400 nm, lines by 10 nm with the others, and the last line.
+fn table(alloc: Global, parts: [&str; 4], lines: u32) -> Result<String, AllocError> {
+    let [header, first, values, last] = parts;
+    let mut text = format!(in alloc; "{header}\n400,{first}\n")?;
+    for i in 1..lines.min(50) {
+        write!(text, "{},{values}\n", 400 + 10 * i)?;
     }
+    text.push_str(last)?;
     Ok(text)
 }
 
-fn curve_fault(alloc: Global, text: &str) -> Option<TableFault> {
-    if text.len() > 1_000_000 {
-        return None;
-    }
-    match read_curves(alloc, text.as_bytes()) {
+fn fault_of<T: Drop>(read: Result<T, TableError>) -> Option<TableFault> {
+    match read {
         Err(TableError::Fault(fault)) => Some(fault),
         _ => None,
     }
 }
 
+fn curves(alloc: Global, text: &str) -> Result<CurveBook, TableError> {
+    if text.len() > 1_000_000 {
+        return Err(TableError::Memory);
+    }
+    read_curves(alloc, text.as_bytes())
+}
+
+fn weights(alloc: Global, text: &str) -> Result<Weights, TableError> {
+    if text.len() > 1_000_000 {
+        return Err(TableError::Memory);
+    }
+    read_weights(alloc, text.as_bytes())
+}
+
 #[test]
 fn first_faults_of_curves(rt: HostRuntime) -> Result<(), Fail> {
-    let alloc = rt.alloc();
     let low = "0.0099,50,30,12.5,6.4,0.8,0.01";
     let high = "100.0001,50,30,12.5,6.4,0.8,0.01";
     let strange = "5x,50,30,12.5,6.4,0.8,0.01";
@@ -55,12 +56,101 @@ fn first_faults_of_curves(rt: HostRuntime) -> Result<(), Fail> {
         ("nm,p100,p50", VALUES, 31, 2, 8, TableRule::WrongCount),
     ];
     for (header, first, lines, row, column, rule) in cases {
-        let text = table(alloc, header, first, VALUES, lines)?;
-        let wanted = TableFault { row, column, rule };
+        let text = table(rt.alloc(), [header, first, VALUES, ""], lines)?;
+        let fault = fault_of(curves(rt.alloc(), text.as_str()));
         assert_eq!(rt;
-            curve_fault(alloc, text.as_str()),
-            Some(wanted),
+            fault,
+            Some(TableFault { row, column, rule }),
             "{header} {first} {lines}"
+        );
+    }
+    Ok(())
+}
+
+#[test]
+fn first_faults_of_weights(rt: HostRuntime) -> Result<(), Fail> {
+    let cases = [
+        (
+            "nm,,,",
+            "1,1,1",
+            31,
+            "white,15,31,31",
+            33,
+            2,
+            TableRule::Unbalanced,
+        ),
+        (
+            "nm,X,Y,Z",
+            "1,1,1",
+            31,
+            "white,31,31,0",
+            33,
+            4,
+            TableRule::WhiteNotPositive,
+        ),
+        (
+            "nm,X,Y,Z",
+            "1,1,1",
+            31,
+            "white,31,31,1000.00001",
+            33,
+            4,
+            TableRule::OutOfRange,
+        ),
+        ("nm,X,Y,Z", "1,1,1", 31, "", 33, 1, TableRule::NoWhite),
+        (
+            "nm,X,Y,Z",
+            "1,1,1",
+            30,
+            "white,31,31,31",
+            32,
+            1,
+            TableRule::BadWavelength,
+        ),
+        (
+            "nm,X,Y,Z",
+            "1,1,1",
+            45,
+            "white,31,31,31",
+            46,
+            1,
+            TableRule::BadWavelength,
+        ),
+        (
+            "nm,X,Y,Z",
+            "1,1,1",
+            31,
+            "white,31,31,31\n830,1,1,1",
+            34,
+            1,
+            TableRule::BadWavelength,
+        ),
+        (
+            "nm,X,Y,Z",
+            "1,1,0.000001",
+            31,
+            "white,31,31,31",
+            2,
+            4,
+            TableRule::BadNumber,
+        ),
+        (
+            "nm,X,Y",
+            "1,1,1",
+            31,
+            "white,31,31,31",
+            1,
+            1,
+            TableRule::NoHeader,
+        ),
+    ];
+    for (header, first, lines, last, row, column, rule) in cases {
+        let text = table(rt.alloc(), [header, first, "1,1,1", last], lines)?;
+        let fault = fault_of(weights(rt.alloc(), text.as_str()));
+        assert_eq!(rt;
+            fault,
+            Some(TableFault { row, column, rule }),
+            "{header} {first} {last}"
         );
     }
     Ok(())
@@ -69,33 +159,36 @@ fn first_faults_of_curves(rt: HostRuntime) -> Result<(), Fail> {
 #[test]
 fn curves_by_name(rt: HostRuntime) -> Result<(), Fail> {
     let alloc = rt.alloc();
-    let plain = table(alloc, HEADER, VALUES, VALUES, 31)?;
-    let mut dressed = String::from_str(alloc, "\u{feff}nm, p100 ,\"p50\"\r\n")?;
-    for i in 0..31u32 {
-        let nm = 400 + 10 * i;
-        write!(dressed, "\"{nm}\"\t,100.00000,\t50 \r\n\r\n")?;
-    }
-    write!(dressed, " ")?;
-    assert_eq!(rt;
-        curve_fault(alloc, dressed.as_str()).map(|f| f.row),
-        Some(33)
-    );
-    let dressed = dressed.as_str().trim_end();
-    assert!(rt; plain.len() <= 1_000_000 && dressed.len() <= 1_000_000);
-    for text in [plain.as_str(), dressed] {
-        let book = read_curves(alloc, text.as_bytes()).ok().ok_or("no curves")?;
-        let curve = book.find("p50").ok_or("p50")?;
-        assert_eq!(rt; curve.waves(), 31);
-        assert_eq!(rt; curve.at(30), 500_000);
-        assert_eq!(rt; curve.as_slice().len(), 31);
-        assert!(rt; book.find("zz").is_none());
-    }
-    let book = read_curves(alloc, plain.as_bytes())
-        .ok()
-        .ok_or("no curves")?;
+    let plain = table(alloc, [HEADER, VALUES, VALUES, ""], 31)?;
+    let book = curves(alloc, plain.as_str()).ok().ok_or("no curves")?;
     let curve = book.find("p001").ok_or("p001")?.clone()?;
     assert_eq!(rt; curve.at(0), 100);
+    assert!(rt; book.find("zz").is_none());
+    let header = "\u{feff} nm\t, p100 ,\"p50\"\r\n";
+    let dressed = table(alloc, [header, "100,50\r", "\"100\",\t50 \r\n\r", ""], 31)?;
+    let book = curves(alloc, dressed.as_str().trim_end())
+        .ok()
+        .ok_or("no dressed curves")?;
+    let curve = book.find("p50").ok_or("p50")?;
+    assert_eq!(rt; curve.waves(), 31);
+    assert_eq!(rt; curve.as_slice().len(), 31);
+    assert_eq!(rt; curve.at(30), 500_000);
     assert_eq!(rt; Curve::default().at(15), 1_000_000);
     assert!(rt; is_name(b"d1 c1") && !is_name(b""));
+    Ok(())
+}
+
+#[test]
+fn folded_weights(rt: HostRuntime) -> Result<(), Fail> {
+    let alloc = rt.alloc();
+    let header = "nm,X,Y,Z\n380,1,2,3\n390,1,2,3";
+    let text = table(alloc, [header, "-1,1,1", "1,1,1", "white,36,38,40.5\n"], 33)?;
+    let weights = weights(alloc, text.as_str()).ok().ok_or("no weights")?;
+    assert_eq!(rt; weights.waves(), 31);
+    assert_eq!(rt; weights.at(0), [100_000, 500_000, 700_000]);
+    assert_eq!(rt; weights.at(1), [100_000, 100_000, 100_000]);
+    assert_eq!(rt; weights.at(30), [300_000, 300_000, 300_000]);
+    assert_eq!(rt; weights.white(), [3_600_000, 3_800_000, 4_050_000]);
+    assert_eq!(rt; fold(400, &[[1, -1, 0]; 31])[30], [1, -1, 0]);
     Ok(())
 }

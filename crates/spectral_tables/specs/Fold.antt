@@ -1,0 +1,21 @@
+-- Weights outside 400 to 700 nm count to the weight at the nearer end.
+use Rattle.std.specs.Prelude.{◌≡◌, ◌+◌, ◌-◌, ◌*◌, ◌/◌, ◌%◌, ◌≤◌, ℕ, List, [], ◌∷◌, ◌++◌, take, drop}
+use Rattle.spectral_tables.specs.Weighing.{Triple, total_of}
+
+-- a run of rows by 10 nm from `first` on that lies within 300 to 830 nm and covers 400 to 700 nm
+pub record Covers (first count : ℕ) : Type 0 where
+  pub tens : first % 10 ≡ 0
+  pub from : 300 ≤ first
+  pub start : first ≤ 400
+  pub end : 710 ≤ first + 10 * count
+  pub within : first + 10 * count ≤ 840
+
+-- how many rows stand before that of 400 nm
+abbrev pub rows_below : ℕ → ℕ
+rows_below first = (400 - first) / 10
+
+-- The rows up to 400 nm are added up, those from 410 to 690 nm stay, and those from 700 nm on are added up.
+unfoldable pub fold_of : ℕ → List Triple → List Triple
+fold_of first triples =
+    total_of (take (rows_below first + 1) triples)
+    ∷ (take 29 (drop (rows_below first + 1) triples) ++ total_of (drop (rows_below first + 30) triples) ∷ [])

@@ -1,0 +1,50 @@
+-- The rows of a weights file, by rising wavelength.
+use Rattle.std.specs.Prelude.{◌≡◌, ◌+◌, ◌*◌, ◌%◌, ◌≤◌, ℕ, Bool, ◌&&◌, ◌==◌, nat_le, if◌then◌else◌, List, [], ◌∷◌, ◌++◌, All, length, Option, Some, None, option_and_then}
+use Rattle.dec_text.specs.Decimal.{decimal_of}
+use Rattle.spectral_tables.specs.Numbers.{natural_in, number_read}
+use Rattle.spectral_tables.specs.Weighing.{Triple, IsTriple}
+
+-- the rows that were read so far: the first wavelength, and the weights of each
+pub record Rows : Type 0 where
+  pub first : ℕ
+  pub triples : List Triple
+
+-- no row yet
+abbrev pub no_rows : Rows
+no_rows = record { first = 300; triples = [] }
+
+-- the number of the record behind the rows
+abbrev pub row_behind : Rows → ℕ
+row_behind rows = length rows.triples + 2
+
+-- the wavelength behind the last row
+abbrev pub wavelength_behind : Rows → ℕ
+wavelength_behind rows = rows.first + 10 * length rows.triples
+
+-- Has a row 700 nm or more?
+abbrev pub reaches_end : Rows → Bool
+reaches_end rows = nat_le 710 (wavelength_behind rows)
+
+-- Is this the wavelength of the next row? The first is any multiple of 10 from 300 to 400, and each further one the one before plus 10.
+abbrev pub is_due : Rows → ℕ → Bool
+is_due rows nm = if length rows.triples == 0 then (nm % 10 == 0) && nat_le nm 400 else nm == wavelength_behind rows
+
+-- a wavelength that is due, or none
+abbrev pub only_due : Rows → ℕ → Option ℕ
+only_due rows nm = if is_due rows nm then Some nm else None
+
+-- the wavelength that a field writes, a whole number from 300 to 830, where it is the one that is due
+unfoldable pub due_wavelength : Rows → List ℕ → Option ℕ
+due_wavelength rows field = option_and_then (only_due rows) (option_and_then (natural_in 300 830) (number_read (decimal_of 0 field)))
+
+-- the rows and one more
+abbrev pub rows_with : Rows → ℕ → Triple → Rows
+rows_with rows nm triple = record { first = if length rows.triples == 0 then nm else rows.first; triples = rows.triples ++ triple ∷ [] }
+
+-- what the rows keep
+pub record IsRun (rows : Rows) : Type 0 where
+  pub tens : rows.first % 10 ≡ 0
+  pub from : 300 ≤ rows.first
+  pub start : rows.first ≤ 400
+  pub within : wavelength_behind rows ≤ 840
+  pub sizes : All IsTriple rows.triples

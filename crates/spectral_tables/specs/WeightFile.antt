@@ -1,0 +1,71 @@
+-- Weights files: a header, one record a wavelength with three weights, and the white record.
+use Rattle.std.specs.Prelude.{◌≡◌, ◌+◌, ◌*◌, ◌%◌, ◌<◌, ◌≤◌, ◌^◌, ℕ, ℤ, pos, ◌<ℤ◌, Bool, true, false, not, ◌&&◌, ◌||◌, ◌==◌, nat_le, if◌then◌else◌, List, [], ◌∷◌, ◌++◌, All, length, drop, codes, int_lt, unsigned_abs, Result, Ok, Err}
+use Rattle.dec_text.specs.Decimal.{decimal_of}
+use Rattle.spectral_tables.specs.declared.fault.TableRule.TheVariants.{NoHeader, BadWavelength, WrongCount, BadNumber, OutOfRange, NoWhite, WhiteNotPositive, Unbalanced}
+use Rattle.spectral_tables.specs.declared.fault.TableFault.{TableFault}
+use Rattle.spectral_tables.specs.Faults.{◌>>=◌, ◌>>◌, fault, ensure, or_fault, each}
+use Rattle.spectral_tables.specs.Records.{Table, records_of, trimmed_fields}
+use Rattle.spectral_tables.specs.Numbers.{number_read}
+use Rattle.spectral_tables.specs.CurveFile.{begins_with, first_field}
+use Rattle.spectral_tables.specs.Weighing.{Triple, Weighing, IsTriple, at_column, size_sum}
+use Rattle.spectral_tables.specs.Fold.{fold_of}
+use Rattle.spectral_tables.specs.Run.{Rows, no_rows, row_behind, reaches_end, due_wavelength, rows_with}
+
+-- A weight with up to five places, or a white value, which is above 0: at most 1,000 in size.
+unfoldable pub weight_of : Bool → ℕ → ℕ → List ℕ → Result ℤ TableFault
+weight_of is_white row column field = do
+  number ← or_fault row column BadNumber (number_read (decimal_of 5 field))
+  ensure row column WhiteNotPositive (not is_white || int_lt (pos 0) number)
+      >> ensure row column OutOfRange (nat_le (unsigned_abs number) (10 ^ 8))
+      >> Ok number
+
+abbrev pub next_weight : Bool → ℕ → Triple → List ℕ → Result ℤ TableFault
+next_weight is_white row before field = weight_of is_white row (length before + 2) field
+
+-- white values are above 0
+abbrev pub IsWhite : Triple → Type 0
+IsWhite white = IsTriple white × All (λ value. pos 0 <ℤ value) white
+
+-- the record of the next wavelength
+unfoldable pub with_row : Rows → List (List ℕ) → Result Rows TableFault
+with_row rows fields = do
+  nm ← or_fault (row_behind rows) 1 BadWavelength (due_wavelength rows (first_field fields))
+  triple ← each (next_weight false (row_behind rows)) [] (drop 1 fields)
+  Ok (rows_with rows nm triple)
+
+-- the white record, which comes once 700 nm is reached
+unfoldable pub white_of : Rows → List (List ℕ) → Result Triple TableFault
+white_of rows fields =
+    ensure (row_behind rows) 1 BadWavelength (reaches_end rows)
+    >> each (next_weight true (row_behind rows)) [] (drop 1 fields)
+
+-- twice the white value of a column is at least the sum of the sizes of its weights
+abbrev pub ensure_balance : Rows → Triple → ℕ → Result (Unit {0}) TableFault
+ensure_balance rows white column =
+    ensure (row_behind rows) (column + 2) Unbalanced (nat_le (size_sum column rows.triples) (2 * unsigned_abs (at_column column white)))
+
+-- the weights at the white record, behind which no record stands
+unfoldable pub closed_of : Rows → Triple → Table → Result Weighing TableFault
+closed_of rows white records =
+    ensure_balance rows white 0 >> ensure_balance rows white 1 >> ensure_balance rows white 2
+    >> ensure (row_behind rows + 1) 1 BadWavelength (length records == 0)
+    >> Ok (record { weights = fold_of rows.first rows.triples; white = white })
+
+-- the records behind the rows, up to the white one
+unfoldable pub weights_from : Rows → Table → Result Weighing TableFault
+weights_from rows [] = Err (fault (row_behind rows) 1 NoWhite)
+weights_from rows (record_here ∷ records) =
+    ensure (row_behind rows) (length record_here) WrongCount (length record_here == 4)
+    >> (if begins_with (codes "white") (trimmed_fields record_here)
+    then white_of rows (trimmed_fields record_here) >>= (λ white. closed_of rows white records)
+    else with_row rows (trimmed_fields record_here) >>= (λ more. weights_from more records))
+
+-- the weights of a table, or its first fault: behind `nm`, the header has three fields with any text
+unfoldable pub weights_of : Table → Result Weighing TableFault
+weights_of [] = Err (fault 1 1 NoHeader)
+weights_of (header ∷ records) =
+    ensure 1 1 NoHeader (begins_with (codes "nm") (trimmed_fields header) && (length header == 4)) >> weights_from no_rows records
+
+-- the weights of a file, or its first fault
+abbrev pub weight_table_of : List ℕ → Result Weighing TableFault
+weight_table_of bytes = weights_of (records_of bytes)

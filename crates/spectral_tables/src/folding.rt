@@ -1,0 +1,54 @@
+//! Weights outside 400 to 700 nm.
+
+ghost use Rattle.std.specs.Prelude.{◌≡◌, ◌*◌, ◌≤◌, ◌<◌, ◌^◌, length, All, unsigned_abs};
+ghost use Rattle.spectral_tables.specs.Weighing.{IsTriple, column_sum, total_of};
+ghost use Rattle.spectral_tables.specs.Fold.{Covers, fold_of};
+
+use crate::curve::PLACES;
+use arrayvec::ArrayVec;
+
+/// The sum of a column.
+fn column_sum(triples: &[[i64; 3]], column: usize) -> i64
+    requires column { column < 3 }
+    requires few { length triples.now ≤ 60 }
+    requires sizes { All IsTriple triples.now }
+    ensures { result ≡ column_sum column triples.now }
+{
+    let mut sum = 0;
+    for triple in triples {
+        sum += triple[column];
+    }
+    sum
+}
+
+fn total(triples: &[[i64; 3]]) -> [i64; 3]
+    requires few { length triples.now ≤ 60 }
+    requires sizes { All IsTriple triples.now }
+    ensures { result ≡ total_of triples.now }
+{
+    [
+        column_sum(triples, 0),
+        column_sum(triples, 1),
+        column_sum(triples, 2),
+    ]
+}
+
+/// The weights at 400 to 700 nm by 10, made of those of a run by 10 nm from `first` on:
+/// what lies below 400 nm is added to the first, and what lies above 700 nm to the last.
+#[tactic(auto, unfolding(crate::specs::Fold::fold_of))]
+pub fn fold(first: u16, triples: &[[i64; 3]]) -> [[i64; 3]; 31]
+    requires run { Covers first (length triples.now) }
+    requires sizes { All IsTriple triples.now }
+    ensures { result ≡ fold_of first triples.now }
+{
+    let below = (400 - first as usize) / 10;
+    let (low, rest) = triples.split_at(below + 1);
+    let (middle, high) = rest.split_at(PLACES - 2);
+    let mut places: ArrayVec<[i64; 3], PLACES> = ArrayVec::new();
+    places.push(total(low));
+    for triple in middle {
+        places.push(*triple);
+    }
+    places.push(total(high));
+    places.into_inner().unwrap()
+}

@@ -1,0 +1,108 @@
+//! The rows of a weights file, by rising wavelength.
+
+ghost use Rattle.std.specs.Prelude.{◌≡◌, ◌+◌, ◌*◌, ◌≤◌, ◌<◌, ◌^◌, ◌++◌, [], ◌∷◌, length, IfOk, IfSome, OnOk, option_and_then, if◌then◌else◌, ◌==◌, IsTrue};
+ghost use Rattle.dec_text.specs.Decimal.{decimal_of};
+ghost use Rattle.spectral_tables.specs.Weighing.{IsTriple};
+ghost use Rattle.spectral_tables.specs.Run.{Rows, IsRun, no_rows, row_behind, wavelength_behind, reaches_end, is_due, due_wavelength, rows_with};
+
+use crate::numbers::{natural_in, number};
+use std::alloc::{AllocError, Global};
+use std::marker::Model;
+
+/// The rows that were read so far: the first wavelength in nanometres, and the weights of each row.
+#[derive(Drop)]
+pub(crate) struct Run {
+    first: u16,
+    triples: Vec<[i64; 3]>,
+}
+
+impl Model for Run {
+    ghost use Rattle.spectral_tables.specs.Run.{Rows, IsRun};
+
+    ghost Value = { Rows };
+
+    ghost view = { λ r. record { first = r.first; triples = r.triples.items } };
+
+    ghost invariant = { λ r. IsRun (record { first = r.first; triples = r.triples.items }) };
+}
+
+impl Run {
+    pub(crate) fn new(alloc: Global) -> Run
+        ensures { result ≡ no_rows }
+    {
+        Run {
+            first: 300,
+            triples: Vec::new(alloc),
+        }
+    }
+
+    pub(crate) fn first(&self) -> u16
+        ensures is { result ≡ self.now.first }
+        ensures held { IsRun self.now }
+    {
+        self.first
+    }
+
+    pub(crate) fn triples(&self) -> &[[i64; 3]]
+        ensures is { result.now ≡ self.now.triples }
+        ensures held { IsRun self.now }
+    {
+        self.triples.as_slice()
+    }
+
+    /// The number of the record behind the rows.
+    pub(crate) fn row_behind(&self) -> u32
+        ensures is { result ≡ row_behind self.now }
+        ensures few { result ≤ 60 }
+    {
+        self.triples.len() as u32 + 2
+    }
+
+    /// The wavelength behind the last row.
+    fn wavelength_behind(&self) -> u32
+        ensures is { result ≡ wavelength_behind self.now }
+        ensures held { IsRun self.now }
+    {
+        u32::from(self.first) + 10 * self.triples.len() as u32
+    }
+
+    /// Whether a row has 700 nm or more.
+    pub(crate) fn reaches_end(&self) -> bool
+        ensures { result ≡ reaches_end self.now }
+    {
+        710 <= self.wavelength_behind()
+    }
+
+    fn is_due(&self, nm: u32) -> bool
+        ensures { result ≡ is_due self.now nm }
+    {
+        if self.triples.is_empty() {
+            nm % 10 == 0 && nm <= 400
+        } else {
+            nm == self.wavelength_behind()
+        }
+    }
+
+    /// The wavelength of a field, where it is the one that the next row has.
+    #[tactic(auto, unfolding(crate::specs::Run::due_wavelength))]
+    pub(crate) fn due_wavelength(&self, field: &[u8]) -> Option<u32>
+        ensures is { result ≡ due_wavelength self.now field.now }
+        ensures due { IfSome result (λ nm. (300 ≤ nm) × (nm ≤ 830) × IsTrue (is_due self.now nm)) }
+    {
+        let nm = natural_in(number(field, 0)?, 300, 830)?;
+        if self.is_due(nm) { Some(nm) } else { None }
+    }
+
+    /// The rows and one more.
+    pub(crate) fn with(self, nm: u32, triple: [i64; 3]) -> Result<Run, AllocError>
+        requires range { (300 ≤ nm) × (nm ≤ 830) }
+        requires due { IsTrue (is_due self nm) }
+        requires sizes { IsTriple triple }
+        ensures { IfOk result (λ r. r ≡ rows_with self nm triple) }
+    {
+        let Run { first, mut triples } = self;
+        let first = if triples.is_empty() { nm as u16 } else { first };
+        triples.push(triple)?;
+        Ok(Run { first, triples })
+    }
+}
