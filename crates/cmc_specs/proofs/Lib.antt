@@ -1,0 +1,5 @@
+pub mod Shares
+pub mod Choices
+pub mod LowerBounds
+pub mod UnitRanges
+pub mod Ranges

@@ -1,1 +1,2 @@
 pub mod Cmc
+pub mod AtLeast
