@@ -4,3 +4,4 @@ pub mod LabLaw
 pub mod LabRanges
 pub mod FEnds
 pub mod LabCalls
+pub mod Colours

@@ -1,2 +1,3 @@
 pub mod Cielab
 pub mod Laws
+pub mod Formula

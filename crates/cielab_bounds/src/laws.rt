@@ -1,5 +1,13 @@
-//! The laws of enclosing. A call does nothing; what it ensures is the law.
-ghost use Rattle.cielab_bounds.specs.Laws.{FEncloses, LabEncloses};
+//! The laws of enclosing. A call of the first two does nothing; what it ensures is the law.
+ghost use Rattle.std.specs.Prelude.{◌≡◌, ℕ, ◌*◌, ◌<◌};
+ghost use Rattle.interval_specs.specs.Encloses.{Encloses};
+ghost use Rattle.cielab_bounds.specs.Cielab.{LabEnds};
+ghost use Rattle.cielab_bounds.specs.Formula.{IsColour};
+ghost use Rattle.cielab_bounds.specs.Laws.{EnclosesLab, FEncloses, LabEncloses};
+
+use crate::coordinates::Lab;
+use crate::difference::Difference;
+use fix_bounds::{Iv, Scale};
 
 /// The law of [`f_iv`](crate::f_iv): each end may stand on either part of f, at the coarse scale and at the fine one.
 pub fn f_iv()
@@ -10,3 +18,16 @@ pub fn f_iv()
 pub fn lab()
     ensures { LabEncloses }
 {}
+
+/// The law of every [`Difference`]: what it gives encloses its own value at each finer scale, of each standard and
+/// sample that lie within these.
+pub fn difference<S: Scale, D: Difference<S>>(rule: &D, standard: &Lab<S>, sample: &Lab<S>) -> Iv<S>
+    ensures is { result ≡ D.value rule.now S.unit (record { l = standard.now.l; a = standard.now.a; b = standard.now.b }) (record { l = sample.now.l; a = sample.now.a; b = sample.now.b }) }
+    ensures finer { (m : ℕ) (p q : LabEnds) → 0 < m → IsColour (m * S.unit) p → IsColour (m * S.unit) q
+        → EnclosesLab m (record { l = standard.now.l; a = standard.now.a; b = standard.now.b }) p
+        → EnclosesLab m (record { l = sample.now.l; a = sample.now.a; b = sample.now.b }) q
+        → Encloses m result (D.value rule.now (m * S.unit) p q) }
+{
+    let kept = rule.keep(standard);
+    rule.delta(&kept, sample)
+}

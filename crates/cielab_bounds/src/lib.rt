@@ -4,11 +4,13 @@
 mod bend;
 mod conversion;
 mod coordinates;
+mod difference;
 pub mod laws;
 
 pub use bend::f_iv;
 pub use conversion::lab;
 pub use coordinates::Lab;
+pub use difference::{Difference, Formula};
 
 #[cfg(test)]
 mod tests;
