@@ -1,4 +1,6 @@
-ghost use Rattle.std.specs.Prelude.{ℕ, pos, ◌*◌, ◌^◌, ◌≤ℤ◌};
+ghost use Rattle.std.specs.Prelude.{◌≡◌, ℕ, pos, ◌*◌, ◌^◌, ◌≤ℤ◌};
+ghost use Rattle.interval_specs.specs.Operations.{hull_of};
+ghost use Rattle.interval_specs.proofs.Laws.{hull_encloses};
 ghost use Rattle.interval_specs.specs.Ranges.{UpTo};
 
 use super::*;
@@ -60,4 +62,36 @@ fn bend(rt: HostRuntime) {
     // 216/24389 lies between these two ends: the lower is on the straight part, the upper on the root
     let bent: Iv<Quick> = f_iv(Iv::of_ends(885_645, 885_646));
     assert_eq!(rt; ends(bent), (20_689_653, 20_689_662));
+}
+
+/// The least interval that holds both lightnesses.
+#[derive(Drop)]
+struct Lightnesses;
+
+impl Formula for Lightnesses {
+    ghost value = { λ _ n p q. hull_of p.l q.l };
+
+    ghost keeps_enclosing = { λ _ n m p q p' q' _ _ _ _ _ _ hp hq. hull_encloses m p.l q.l p'.l q'.l hp.l hq.l };
+}
+
+impl<S: Scale> Difference<S> for Lightnesses {
+    type Kept = Iv<S>;
+
+    ghost stands_for = { λ _ kept p. kept ≡ p.l };
+
+    fn keep(&self, standard: &Lab<S>) -> Iv<S> {
+        standard.l
+    }
+
+    fn delta(&self, kept: &Iv<S>, sample: &Lab<S>) -> Iv<S> {
+        kept.hull(sample.l)
+    }
+}
+
+#[test]
+fn difference(rt: HostRuntime) {
+    let white = colour::<Quick>(at(100_000_000), at(100_000_000), at(100_000_000));
+    let red = colour::<Quick>(at(17_561_600), at(12_500_000), at(2_700_000));
+    let both = laws::difference(&Lightnesses, &white, &red);
+    assert_eq!(rt; ends(both), (4_200_000_000, 10_000_000_000));
 }
