@@ -5,3 +5,7 @@ pub mod UnitRanges
 pub mod Ranges
 pub mod Sizes
 pub mod TermSizes
+pub mod PartLaws
+pub mod HueLaws
+pub mod StandardLaw
+pub mod Law

@@ -1,2 +1,3 @@
 pub mod Cmc
 pub mod AtLeast
+pub mod Laws
