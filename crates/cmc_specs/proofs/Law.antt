@@ -7,9 +7,10 @@ use Rattle.interval_specs.proofs.Laws.{cut_low_encloses, difference_encloses, fr
 use Rattle.interval_specs.proofs.Ranges.{cut_low_not_negative, quotient_not_negative, square_not_negative, sum_not_negative}
 use Rattle.interval_specs.proofs.RootLaws.{sqrt_encloses}
 use Rattle.cielab_bounds.specs.Cielab.{LabEnds}
+use Rattle.cielab_bounds.specs.Formula.{KeepsEnclosing}
 use Rattle.cielab_bounds.specs.Laws.{EnclosesLab}
 use Rattle.cmc_specs.specs.AtLeast.{AtLeast}
-use Rattle.cmc_specs.specs.Cmc.{chroma_difference, chroma_term, hue_difference_square, hue_term, kept_difference, lightness_term, StandardEnds, standard_at}
+use Rattle.cmc_specs.specs.Cmc.{chroma_difference, chroma_term, cmc_at, hue_difference_square, hue_term, kept_difference, lightness_term, StandardEnds, standard_at}
 use Rattle.cmc_specs.specs.Laws.{CmcEncloses, EnclosesStandard}
 use Rattle.cmc_specs.proofs.LowerBounds.{positive}
 use Rattle.cmc_specs.proofs.PartLaws.{chroma_encloses}
@@ -81,3 +82,7 @@ pub any_colours_enclose : (l10 c10 : ℕ) → 0 < l10 → 0 < c10 → CmcEnclose
 any_colours_enclose l10 c10 l c n m p q p' q' few finer h k =
     let w = standard_weighted n p few (outer_ordered m p.a p'.a finer h.a) (outer_ordered m p.b p'.b finer h.b) in
     kept_encloses n m l10 c10 (standard_at n p) (standard_at (m * n) p') q q' few finer l c w (standard_encloses n m p p' few finer h) k
+
+-- the law as it is asked of every colour difference
+pub cmc_encloses : (l10 c10 : ℕ) → 0 < l10 → 0 < c10 → KeepsEnclosing (cmc_at l10 c10)
+cmc_encloses l10 c10 l c n m p q p' q' few finer ip iq ip' iq' h k = any_colours_enclose l10 c10 l c n m p q p' q' few finer h k
