@@ -189,6 +189,5 @@ fn folded_weights(rt: HostRuntime) -> Result<(), Fail> {
     assert_eq!(rt; weights.at(1), [100_000, 100_000, 100_000]);
     assert_eq!(rt; weights.at(30), [300_000, 300_000, 300_000]);
     assert_eq!(rt; weights.white(), [3_600_000, 3_800_000, 4_050_000]);
-    assert_eq!(rt; fold(400, &[[1, -1, 0]; 31])[30], [1, -1, 0]);
     Ok(())
 }
