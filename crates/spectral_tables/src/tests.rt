@@ -1,4 +1,5 @@
 use super::*;
+use fix_bounds::Base;
 use std::alloc::{AllocError, Global};
 use std::test::Fail;
 
@@ -173,6 +174,11 @@ fn curves_by_name(rt: HostRuntime) -> Result<(), Fail> {
     assert_eq!(rt; curve.waves(), 31);
     assert_eq!(rt; curve.as_slice().len(), 31);
     assert_eq!(rt; curve.at(30), 500_000);
+    let spectrum: Spectrum<Base> = curve.spectrum();
+    assert_eq!(rt; spectrum.waves(), 31);
+    assert_eq!(rt; spectrum.at(30).lo(), 500_000_000_000);
+    let same = Spectrum::of(&[spectrum.at(0); 31]);
+    assert_eq!(rt; same.at(7).hi(), 500_000_000_000);
     assert_eq!(rt; Curve::default().at(15), 1_000_000);
     assert!(rt; is_name(b"d1 c1") && !is_name(b""));
     Ok(())
@@ -189,6 +195,5 @@ fn folded_weights(rt: HostRuntime) -> Result<(), Fail> {
     assert_eq!(rt; weights.at(1), [100_000, 100_000, 100_000]);
     assert_eq!(rt; weights.at(30), [300_000, 300_000, 300_000]);
     assert_eq!(rt; weights.white(), [3_600_000, 3_800_000, 4_050_000]);
-    assert_eq!(rt; fold(400, &[[1, -1, 0]; 31])[30], [1, -1, 0]);
     Ok(())
 }
