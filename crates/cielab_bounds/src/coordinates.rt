@@ -1,4 +1,4 @@
-ghost use Rattle.std.specs.Prelude.{ℕ, ◌*◌};
+ghost use Rattle.std.specs.Prelude.{◌≡◌, ℕ, ◌*◌, ⊤};
 ghost use Rattle.interval_specs.specs.Ranges.{Sized};
 
 use fix_bounds::{Iv, Scale};
@@ -16,6 +16,10 @@ pub struct Lab<S: Scale> {
 }
 
 impl<S: Scale> Clone for Lab<S> {
+    ghost is_clone = { λ colour copy. copy ≡ colour };
+
+    ghost is_infallible = { λ _. ⊤ };
+
     fn clone(&self) -> Result<Self, AllocError> {
         Ok(*self)
     }

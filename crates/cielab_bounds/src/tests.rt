@@ -36,6 +36,7 @@ fn colours(rt: HostRuntime) {
     );
     assert_eq!(rt; ends(white.l), (100_000_000_000_000, 100_000_000_000_000));
     assert_eq!(rt; (ends(white.a), ends(white.b)), ((0, 0), (0, 0)));
+    assert!(rt; matches!(white.clone(), Ok(copy) if ends(copy.l) == ends(white.l)));
     let grey = colour::<Base>(
         at(125_000_000_000),
         at(125_000_000_000),

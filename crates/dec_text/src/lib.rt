@@ -4,6 +4,7 @@
 mod body;
 mod fault;
 mod fixed;
+pub mod laws;
 mod read;
 mod size;
 

@@ -14,3 +14,6 @@ mod scale;
 pub use interval::Iv;
 pub use ratios::Ratios;
 pub use scale::{Base, Quick, Scale};
+
+#[cfg(test)]
+mod tests;

@@ -1,4 +1,5 @@
-ghost use Rattle.std.specs.Prelude.{ℕ, ◌*◌};
+ghost use Rattle.std.specs.Prelude.{◌≡◌, ℕ, ◌*◌};
+ghost use Rattle.std.specs.Bool.{⊤};
 ghost use Rattle.interval_specs.specs.Ranges.{UpTo};
 
 use crate::interval::Iv;
@@ -17,6 +18,10 @@ pub struct Ratios<S: Scale> {
 }
 
 impl<S: Scale> Clone for Ratios<S> {
+    ghost is_clone = { λ source copy. copy ≡ source };
+
+    ghost is_infallible = { λ _. ⊤ };
+
     fn clone(&self) -> Result<Self, AllocError> {
         Ok(*self)
     }

@@ -1,11 +1,11 @@
 -- The laws of the cuts and of a hull.
-use Rattle.std.proofs.Common.{ℕ, ℤ, pos, ◌≡◌, ◌*◌, ◌*ℤ◌, ◌≤ℤ◌, arith, subst, sym, ap, ◌∙◌}
+use Rattle.std.proofs.Common.{ℕ, ℤ, pos, ◌≡◌, ◌*◌, ◌*ℤ◌, ◌≤ℤ◌, subst, sym}
 use Rattle.std.specs.Int.{int_min, int_max}
 use Rattle.interval_specs.specs.Ends.{Ends}
 use Rattle.interval_specs.specs.Encloses.{Encloses}
 use Rattle.interval_specs.specs.Operations.{cut_low_at, cut_high_at, hull_of}
 use Rattle.interval_specs.specs.Laws.{CutLowEncloses, CutHighEncloses, HullEncloses}
-use Rattle.interval_specs.proofs.Order.{parts, by_parts, trans_ℤ, refl_ℤ, mono_front, mul_swap_ℤ, either_min, either_max, min_left, min_right, max_left, max_right}
+use Rattle.interval_specs.proofs.Order.{trans_ℤ, refl_ℤ, mono_front, mul_swap_ℤ, either_min, either_max, min_left, min_right, max_left, max_right}
 
 -- m times the greater of two numbers, below the greater of two others
 max_above : (m : ℕ) (a b a' b' : ℤ) → (pos m *ℤ a) ≤ℤ a' → (pos m *ℤ b) ≤ℤ b' → (pos m *ℤ int_max a b) ≤ℤ int_max a' b'
@@ -16,15 +16,15 @@ max_below : (m : ℕ) (a b a' b' : ℤ) → a' ≤ℤ (pos m *ℤ a) → b' ≤�
 max_below m a b a' b' p q =
     let top = int_max a b in
     either_max (λ z. z ≤ℤ (pos m *ℤ top)) a' b'
-      (trans_ℤ a' (pos m *ℤ a) (pos m *ℤ top) p (mono_front m a top (max_left a b)))
-      (trans_ℤ b' (pos m *ℤ b) (pos m *ℤ top) q (mono_front m b top (max_right a b)))
+    (trans_ℤ a' (pos m *ℤ a) (pos m *ℤ top) p (mono_front m a top (max_left a b)))
+    (trans_ℤ b' (pos m *ℤ b) (pos m *ℤ top) q (mono_front m b top (max_right a b)))
 
 min_above : (m : ℕ) (a b a' b' : ℤ) → (pos m *ℤ a) ≤ℤ a' → (pos m *ℤ b) ≤ℤ b' → (pos m *ℤ int_min a b) ≤ℤ int_min a' b'
 min_above m a b a' b' p q =
     let low = int_min a b in
     either_min (λ z. (pos m *ℤ low) ≤ℤ z) a' b'
-      (trans_ℤ (pos m *ℤ low) (pos m *ℤ a) a' (mono_front m low a (min_left a b)) p)
-      (trans_ℤ (pos m *ℤ low) (pos m *ℤ b) b' (mono_front m low b (min_right a b)) q)
+    (trans_ℤ (pos m *ℤ low) (pos m *ℤ a) a' (mono_front m low a (min_left a b)) p)
+    (trans_ℤ (pos m *ℤ low) (pos m *ℤ b) b' (mono_front m low b (min_right a b)) q)
 
 min_below : (m : ℕ) (a b a' b' : ℤ) → a' ≤ℤ (pos m *ℤ a) → b' ≤ℤ (pos m *ℤ b) → int_min a' b' ≤ℤ (pos m *ℤ int_min a b)
 min_below m a b a' b' p q =
@@ -47,7 +47,7 @@ cut_low_encloses n m k a a' p =
     record {
       low = max_above m a.lo (k *ℤ pos n) a'.lo place p.low (place_above n m k);
       high = max_below m a.hi (k *ℤ pos n) a'.hi place p.high (place_below n m k);
-      ordered = either_max (λ z. z ≤ℤ int_max a'.hi place) a'.lo place (trans_ℤ a'.lo a'.hi (int_max a'.hi place) p.ordered (max_left a'.hi place)) (max_right a'.hi place)
+      ordered = either_max (λ z. z ≤ℤ int_max a'.hi place) a'.lo place (trans_ℤ a'.lo a'.hi (int_max a'.hi place) p.ordered (max_left a'.hi place)) (max_right a'.hi place);
     }
 
 pub cut_high_encloses : CutHighEncloses
@@ -57,7 +57,7 @@ cut_high_encloses n m k a a' p =
     record {
       low = min_above m a.lo (k *ℤ pos n) a'.lo place p.low (place_above n m k);
       high = min_below m a.hi (k *ℤ pos n) a'.hi place p.high (place_below n m k);
-      ordered = either_min (λ z. int_min a'.lo place ≤ℤ z) a'.hi place (trans_ℤ (int_min a'.lo place) a'.lo a'.hi (min_left a'.lo place) p.ordered) (min_right a'.lo place)
+      ordered = either_min (λ z. int_min a'.lo place ≤ℤ z) a'.hi place (trans_ℤ (int_min a'.lo place) a'.lo a'.hi (min_left a'.lo place) p.ordered) (min_right a'.lo place);
     }
 
 pub hull_encloses : HullEncloses
@@ -66,7 +66,7 @@ hull_encloses m a b a' b' p q =
     record {
       low = min_above m a.lo b.lo a'.lo b'.lo p.low q.low;
       high = max_below m a.hi b.hi a'.hi b'.hi p.high q.high;
-      ordered = trans_ℤ (int_min a'.lo b'.lo) a'.lo (int_max a'.hi b'.hi) (min_left a'.lo b'.lo) (trans_ℤ a'.lo a'.hi (int_max a'.hi b'.hi) p.ordered (max_left a'.hi b'.hi))
+      ordered = trans_ℤ (int_min a'.lo b'.lo) a'.lo (int_max a'.hi b'.hi) (min_left a'.lo b'.lo) (trans_ℤ a'.lo a'.hi (int_max a'.hi b'.hi) p.ordered (max_left a'.hi b'.hi));
     }
 
 -- what one of two intervals encloses, their hull does
@@ -76,7 +76,7 @@ hull_first m a b x h =
     record {
       low = trans_ℤ (pos m *ℤ int_min a.lo b.lo) (pos m *ℤ a.lo) x.lo (mono_front m (int_min a.lo b.lo) a.lo (min_left a.lo b.lo)) h.low;
       high = trans_ℤ x.hi (pos m *ℤ a.hi) (pos m *ℤ int_max a.hi b.hi) h.high (mono_front m a.hi (int_max a.hi b.hi) (max_left a.hi b.hi));
-      ordered = h.ordered
+      ordered = h.ordered;
     }
 
 pub hull_second : (m : ℕ) (a b x : Ends) → Encloses m b x → Encloses m (hull_of a b) x
@@ -85,5 +85,5 @@ hull_second m a b x h =
     record {
       low = trans_ℤ (pos m *ℤ int_min a.lo b.lo) (pos m *ℤ b.lo) x.lo (mono_front m (int_min a.lo b.lo) b.lo (min_right a.lo b.lo)) h.low;
       high = trans_ℤ x.hi (pos m *ℤ b.hi) (pos m *ℤ int_max a.hi b.hi) h.high (mono_front m b.hi (int_max a.hi b.hi) (max_right a.hi b.hi));
-      ordered = h.ordered
+      ordered = h.ordered;
     }

@@ -1,9 +1,9 @@
 -- What enclosing gives by itself.
-use Rattle.std.proofs.Common.{ℕ, ℤ, pos, ◌≡◌, ◌+◌, ◌*◌, ◌≤◌, ◌<◌, ◌*ℤ◌, ◌≤ℤ◌, arith, subst, sym}
+use Rattle.std.proofs.Common.{ℕ, ℤ, pos, ◌*◌, ◌<◌, ◌*ℤ◌, ◌≤ℤ◌, arith}
 use Rattle.std.proofs.lemmas.Int.{ints}
 use Rattle.interval_specs.specs.Ends.{Ends, IsOrdered, whole}
 use Rattle.interval_specs.specs.Encloses.{Encloses}
-use Rattle.interval_specs.proofs.Order.{parts, by_parts, to_parts, trans_ℤ, refl_ℤ, mono_front, cancel_front, mul_swap_ℤ}
+use Rattle.interval_specs.proofs.Order.{parts, by_parts, to_parts, trans_ℤ, refl_ℤ, mono_front, cancel_front}
 
 -- what encloses an interval has its own ends in order
 pub outer_ordered : (m : ℕ) (a b : Ends) → 0 < m → Encloses m a b → IsOrdered a
@@ -20,7 +20,7 @@ encloses_trans m k a b c h j =
     record {
       low = by_parts (pos (k * m) *ℤ a.lo) c.lo (simp parts (omega arith));
       high = by_parts c.hi (pos (k * m) *ℤ a.hi) (simp parts (omega arith));
-      ordered = j.ordered
+      ordered = j.ordered;
     }
 
 -- at one scale: inclusion

@@ -1,15 +1,9 @@
 -- The ends of a result, put together.
-use Rattle.std.proofs.Common.{ℕ, ℤ, pos, ◌≡◌, ◌+◌, ◌*◌, ◌≤◌, ◌<◌, ◌^◌, ◌*ℤ◌, ◌≤ℤ◌, unsigned_abs, max, arith, subst, sym, ◌∙◌}
-use Rattle.std.proofs.lemmas.Int.{ints, unsigned_abs-mul}
-use Rattle.interval_specs.specs.Rounding.{floor_over, ceil_over}
+use Rattle.std.proofs.Common.{ℤ, ◌≡◌, subst, sym, ◌∙◌}
 use Rattle.interval_specs.specs.Ends.{Ends, IsHeld}
-use Rattle.interval_specs.specs.Operations.{ratio_at}
-use Rattle.interval_specs.proofs.Order.{refl_ℤ}
-use Rattle.interval_specs.proofs.Sizes.{floor_small, ceil_small}
-use Rattle.interval_specs.proofs.Rounds.{floor_le_ceil}
 
 -- the ends of an interval e
-pub same_ends : (x y : ℤ) (e : Ends) → x ≡ e.lo → y ≡ e.hi → record {lo = x; hi = y} ≡ e
+pub same_ends : (x y : ℤ) (e : Ends) → x ≡ e.lo → y ≡ e.hi → record { lo = x; hi = y } ≡ e
 same_ends x y e p q = λ i. record { lo = p i; hi = q i }
 
 -- a result whose ends are those of e

@@ -14,3 +14,4 @@ pub mod Ranges
 pub mod Roots
 pub mod RootLaws
 pub mod RootRanges
+pub mod Decisions

@@ -1,5 +1,5 @@
 -- The ring and the order of the whole numbers, for products that `omega` alone does not open.
-use Rattle.std.proofs.Common.{ℕ, ℤ, pos, negsuc, suc, ◌≡◌, true, false, cond, int_lt, ◌+◌, ◌*◌, ◌≤◌, ◌<◌, ◌+ℤ◌, ◌-ℤ◌, ◌*ℤ◌, neg_ℤ, ◌≤ℤ◌, ◌<ℤ◌, unsigned_abs, refl, ap, subst, arith, mul-le-mul_left, mul-pos, sym}
+use Rattle.std.proofs.Common.{ℕ, ℤ, pos, negsuc, suc, ◌≡◌, true, false, cond, int_lt, ◌+◌, ◌*◌, ◌≤◌, ◌<◌, ◌+ℤ◌, ◌*ℤ◌, neg_ℤ, ◌≤ℤ◌, ◌<ℤ◌, unsigned_abs, refl, ap, subst, arith, mul-le-mul_left, mul-pos, sym}
 use Rattle.std.proofs.Math.Nat.{le_of_mul-le-mul_left}
 use borrow.Author.Differences.{up, down, le_out, lt_out, at_most_in, below_in, same_in, product_is, neg_is, sum_is_lem}
 use Rattle.std.proofs.lemmas.Int.{ints, clamps}
@@ -226,14 +226,14 @@ down_small (negsuc n) = omega arith
 pub least_of_lower : (p q r s : ℤ) → p ≤ℤ r → q ≤ℤ s → least_of_four p q r s ≡ int_min p q
 least_of_lower p q r s h k =
     antisym_ℤ (least_of_four p q r s) (int_min p q)
-      (min_left (int_min p q) (int_min r s))
-      (any_least (λ z. int_min p q ≤ℤ z) p q r s (min_left p q) (min_right p q) (trans_ℤ (int_min p q) p r (min_left p q) h) (trans_ℤ (int_min p q) q s (min_right p q) k))
+    (min_left (int_min p q) (int_min r s))
+    (any_least (λ z. int_min p q ≤ℤ z) p q r s (min_left p q) (min_right p q) (trans_ℤ (int_min p q) p r (min_left p q) h) (trans_ℤ (int_min p q) q s (min_right p q) k))
 
 pub greatest_of_upper : (p q r s : ℤ) → p ≤ℤ r → q ≤ℤ s → greatest_of_four p q r s ≡ int_max r s
 greatest_of_upper p q r s h k =
     antisym_ℤ (greatest_of_four p q r s) (int_max r s)
-      (any_greatest (λ z. z ≤ℤ int_max r s) p q r s (trans_ℤ p r (int_max r s) h (max_left r s)) (trans_ℤ q s (int_max r s) k (max_right r s)) (max_left r s) (max_right r s))
-      (max_right (int_max p q) (int_max r s))
+    (any_greatest (λ z. z ≤ℤ int_max r s) p q r s (trans_ℤ p r (int_max r s) h (max_left r s)) (trans_ℤ q s (int_max r s) k (max_right r s)) (max_left r s) (max_right r s))
+    (max_right (int_max p q) (int_max r s))
 
 -- the lesser and the greater of two that stand in order
 pub min_first : (x y : ℤ) → x ≤ℤ y → int_min x y ≡ x
@@ -254,13 +254,13 @@ least_front a b c d p h q k =
     let below = wider c a b q h in
     let side = wide_front a c d p k in
     antisym_ℤ (least_of_four (a *ℤ c) (a *ℤ d) (b *ℤ c) (b *ℤ d)) (a *ℤ c)
-      (least_first (a *ℤ c) (a *ℤ d) (b *ℤ c) (b *ℤ d))
-      (any_least (λ z. (a *ℤ c) ≤ℤ z) (a *ℤ c) (a *ℤ d) (b *ℤ c) (b *ℤ d) (refl_ℤ (a *ℤ c)) side below (trans_ℤ (a *ℤ c) (b *ℤ c) (b *ℤ d) below (wide_front b c d (trans_ℤ (pos 0) a b p h) k)))
+    (least_first (a *ℤ c) (a *ℤ d) (b *ℤ c) (b *ℤ d))
+    (any_least (λ z. (a *ℤ c) ≤ℤ z) (a *ℤ c) (a *ℤ d) (b *ℤ c) (b *ℤ d) (refl_ℤ (a *ℤ c)) side below (trans_ℤ (a *ℤ c) (b *ℤ c) (b *ℤ d) below (wide_front b c d (trans_ℤ (pos 0) a b p h) k)))
 
 pub greatest_back : (a b c d : ℤ) → pos 0 ≤ℤ a → a ≤ℤ b → pos 0 ≤ℤ c → c ≤ℤ d → greatest_of_four (a *ℤ c) (a *ℤ d) (b *ℤ c) (b *ℤ d) ≡ b *ℤ d
 greatest_back a b c d p h q k =
     let above = wider d a b (trans_ℤ (pos 0) c d q k) h in
     let side = wide_front b c d (trans_ℤ (pos 0) a b p h) k in
     antisym_ℤ (greatest_of_four (a *ℤ c) (a *ℤ d) (b *ℤ c) (b *ℤ d)) (b *ℤ d)
-      (any_greatest (λ z. z ≤ℤ (b *ℤ d)) (a *ℤ c) (a *ℤ d) (b *ℤ c) (b *ℤ d) (trans_ℤ (a *ℤ c) (b *ℤ c) (b *ℤ d) (wider c a b q h) side) above side (refl_ℤ (b *ℤ d)))
-      (greatest_fourth (a *ℤ c) (a *ℤ d) (b *ℤ c) (b *ℤ d))
+    (any_greatest (λ z. z ≤ℤ (b *ℤ d)) (a *ℤ c) (a *ℤ d) (b *ℤ c) (b *ℤ d) (trans_ℤ (a *ℤ c) (b *ℤ c) (b *ℤ d) (wider c a b q h) side) above side (refl_ℤ (b *ℤ d)))
+    (greatest_fourth (a *ℤ c) (a *ℤ d) (b *ℤ c) (b *ℤ d))

@@ -1,5 +1,5 @@
 -- The law of a product.
-use Rattle.std.proofs.Common.{ℕ, ℤ, pos, ◌≡◌, ◌+◌, ◌*◌, ◌≤◌, ◌<◌, ◌*ℤ◌, ◌≤ℤ◌, arith, subst, sym, mul-pos}
+use Rattle.std.proofs.Common.{ℕ, ℤ, pos, ◌≡◌, ◌*◌, ◌<◌, ◌*ℤ◌, ◌≤ℤ◌, arith, subst, sym, mul-pos}
 use borrow.Author.Differences.{same_in}
 use Rattle.interval_specs.specs.Ends.{Ends}
 use Rattle.interval_specs.specs.Encloses.{Encloses}
@@ -24,19 +24,19 @@ product_low : (m : ℕ) (a b : Ends) (x y : ℤ) → (pos m *ℤ a.lo) ≤ℤ x 
 product_low m a b x y p q r s =
     let l = least_product a b in
     corner_low (pos (m * m) *ℤ l) (pos m *ℤ a.lo) x (pos m *ℤ a.hi) (pos m *ℤ b.lo) y (pos m *ℤ b.hi) p q r s
-      (finer_low m l a.lo b.lo (least_first (a.lo *ℤ b.lo) (a.lo *ℤ b.hi) (a.hi *ℤ b.lo) (a.hi *ℤ b.hi)))
-      (finer_low m l a.lo b.hi (least_second (a.lo *ℤ b.lo) (a.lo *ℤ b.hi) (a.hi *ℤ b.lo) (a.hi *ℤ b.hi)))
-      (finer_low m l a.hi b.lo (least_third (a.lo *ℤ b.lo) (a.lo *ℤ b.hi) (a.hi *ℤ b.lo) (a.hi *ℤ b.hi)))
-      (finer_low m l a.hi b.hi (least_fourth (a.lo *ℤ b.lo) (a.lo *ℤ b.hi) (a.hi *ℤ b.lo) (a.hi *ℤ b.hi)))
+    (finer_low m l a.lo b.lo (least_first (a.lo *ℤ b.lo) (a.lo *ℤ b.hi) (a.hi *ℤ b.lo) (a.hi *ℤ b.hi)))
+    (finer_low m l a.lo b.hi (least_second (a.lo *ℤ b.lo) (a.lo *ℤ b.hi) (a.hi *ℤ b.lo) (a.hi *ℤ b.hi)))
+    (finer_low m l a.hi b.lo (least_third (a.lo *ℤ b.lo) (a.lo *ℤ b.hi) (a.hi *ℤ b.lo) (a.hi *ℤ b.hi)))
+    (finer_low m l a.hi b.hi (least_fourth (a.lo *ℤ b.lo) (a.lo *ℤ b.hi) (a.hi *ℤ b.lo) (a.hi *ℤ b.hi)))
 
 product_high : (m : ℕ) (a b : Ends) (x y : ℤ) → (pos m *ℤ a.lo) ≤ℤ x → x ≤ℤ (pos m *ℤ a.hi) → (pos m *ℤ b.lo) ≤ℤ y → y ≤ℤ (pos m *ℤ b.hi) → (x *ℤ y) ≤ℤ (pos (m * m) *ℤ greatest_product a b)
 product_high m a b x y p q r s =
     let l = greatest_product a b in
     corner_high (pos (m * m) *ℤ l) (pos m *ℤ a.lo) x (pos m *ℤ a.hi) (pos m *ℤ b.lo) y (pos m *ℤ b.hi) p q r s
-      (finer_high m l a.lo b.lo (greatest_first (a.lo *ℤ b.lo) (a.lo *ℤ b.hi) (a.hi *ℤ b.lo) (a.hi *ℤ b.hi)))
-      (finer_high m l a.lo b.hi (greatest_second (a.lo *ℤ b.lo) (a.lo *ℤ b.hi) (a.hi *ℤ b.lo) (a.hi *ℤ b.hi)))
-      (finer_high m l a.hi b.lo (greatest_third (a.lo *ℤ b.lo) (a.lo *ℤ b.hi) (a.hi *ℤ b.lo) (a.hi *ℤ b.hi)))
-      (finer_high m l a.hi b.hi (greatest_fourth (a.lo *ℤ b.lo) (a.lo *ℤ b.hi) (a.hi *ℤ b.lo) (a.hi *ℤ b.hi)))
+    (finer_high m l a.lo b.lo (greatest_first (a.lo *ℤ b.lo) (a.lo *ℤ b.hi) (a.hi *ℤ b.lo) (a.hi *ℤ b.hi)))
+    (finer_high m l a.lo b.hi (greatest_second (a.lo *ℤ b.lo) (a.lo *ℤ b.hi) (a.hi *ℤ b.lo) (a.hi *ℤ b.hi)))
+    (finer_high m l a.hi b.lo (greatest_third (a.lo *ℤ b.lo) (a.lo *ℤ b.hi) (a.hi *ℤ b.lo) (a.hi *ℤ b.hi)))
+    (finer_high m l a.hi b.hi (greatest_fourth (a.lo *ℤ b.lo) (a.lo *ℤ b.hi) (a.hi *ℤ b.lo) (a.hi *ℤ b.hi)))
 
 -- the same for the least and the greatest fine product
 least_low : (m : ℕ) (a b a' b' : Ends) → Encloses m a a' → Encloses m b b' → (pos (m * m) *ℤ least_product a b) ≤ℤ least_product a' b'
@@ -46,10 +46,10 @@ least_low m a b a' b' p q =
     let qu = trans_ℤ (pos m *ℤ b.lo) b'.lo b'.hi q.low q.ordered in
     let qo = trans_ℤ b'.lo b'.hi (pos m *ℤ b.hi) q.ordered q.high in
     any_least (λ z. (pos (m * m) *ℤ least_product a b) ≤ℤ z) (a'.lo *ℤ b'.lo) (a'.lo *ℤ b'.hi) (a'.hi *ℤ b'.lo) (a'.hi *ℤ b'.hi)
-      (product_low m a b a'.lo b'.lo p.low po q.low qo)
-      (product_low m a b a'.lo b'.hi p.low po qu q.high)
-      (product_low m a b a'.hi b'.lo pu p.high q.low qo)
-      (product_low m a b a'.hi b'.hi pu p.high qu q.high)
+    (product_low m a b a'.lo b'.lo p.low po q.low qo)
+    (product_low m a b a'.lo b'.hi p.low po qu q.high)
+    (product_low m a b a'.hi b'.lo pu p.high q.low qo)
+    (product_low m a b a'.hi b'.hi pu p.high qu q.high)
 
 greatest_high : (m : ℕ) (a b a' b' : Ends) → Encloses m a a' → Encloses m b b' → greatest_product a' b' ≤ℤ (pos (m * m) *ℤ greatest_product a b)
 greatest_high m a b a' b' p q =
@@ -58,17 +58,17 @@ greatest_high m a b a' b' p q =
     let qu = trans_ℤ (pos m *ℤ b.lo) b'.lo b'.hi q.low q.ordered in
     let qo = trans_ℤ b'.lo b'.hi (pos m *ℤ b.hi) q.ordered q.high in
     any_greatest (λ z. z ≤ℤ (pos (m * m) *ℤ greatest_product a b)) (a'.lo *ℤ b'.lo) (a'.lo *ℤ b'.hi) (a'.hi *ℤ b'.lo) (a'.hi *ℤ b'.hi)
-      (product_high m a b a'.lo b'.lo p.low po q.low qo)
-      (product_high m a b a'.lo b'.hi p.low po qu q.high)
-      (product_high m a b a'.hi b'.lo pu p.high q.low qo)
-      (product_high m a b a'.hi b'.hi pu p.high qu q.high)
+    (product_high m a b a'.lo b'.lo p.low po q.low qo)
+    (product_high m a b a'.lo b'.hi p.low po qu q.high)
+    (product_high m a b a'.hi b'.lo pu p.high q.low qo)
+    (product_high m a b a'.hi b'.hi pu p.high qu q.high)
 
 -- the least product is at most the greatest
 pub products_ordered : (a b : Ends) → least_product a b ≤ℤ greatest_product a b
 products_ordered a b =
     trans_ℤ (least_product a b) (a.lo *ℤ b.lo) (greatest_product a b)
-      (least_first (a.lo *ℤ b.lo) (a.lo *ℤ b.hi) (a.hi *ℤ b.lo) (a.hi *ℤ b.hi))
-      (greatest_first (a.lo *ℤ b.lo) (a.lo *ℤ b.hi) (a.hi *ℤ b.lo) (a.hi *ℤ b.hi))
+    (least_first (a.lo *ℤ b.lo) (a.lo *ℤ b.hi) (a.hi *ℤ b.lo) (a.hi *ℤ b.hi))
+    (greatest_first (a.lo *ℤ b.lo) (a.lo *ℤ b.hi) (a.hi *ℤ b.lo) (a.hi *ℤ b.hi))
 
 -- a bound by the square of m, with the factor n that the rounding asks for
 pub squared_low : (n m : ℕ) (z z' : ℤ) → (pos (m * m) *ℤ z) ≤ℤ z' → (pos (m * (m * n)) *ℤ z) ≤ℤ (pos n *ℤ z')
@@ -92,5 +92,5 @@ product_encloses n m a b a' b' some finer p q =
     record {
       low = floor_encloses m n (m * n) l l' some fine (squared_low n m l l' (least_low m a b a' b' p q));
       high = ceil_encloses m n (m * n) g g' some fine (squared_high n m g g' (greatest_high m a b a' b' p q));
-      ordered = floor_le_ceil l' g' (m * n) fine (products_ordered a' b')
+      ordered = floor_le_ceil l' g' (m * n) fine (products_ordered a' b');
     }

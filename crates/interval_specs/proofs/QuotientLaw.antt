@@ -1,14 +1,13 @@
 -- The law of a quotient by an interval above 0.
-use Rattle.std.proofs.Common.{ℕ, ℤ, pos, negsuc, suc, mul-pos, ◌≡◌, ◌+◌, ◌*◌, ◌≤◌, ◌<◌, ◌*ℤ◌, ◌≤ℤ◌, ◌<ℤ◌, unsigned_abs, arith, subst, sym, mul-le-mul_left}
+use Rattle.std.proofs.Common.{ℕ, ℤ, pos, ◌≡◌, ◌*◌, ◌*ℤ◌, ◌≤ℤ◌, ◌<ℤ◌, unsigned_abs, arith, subst}
 use Rattle.std.proofs.lemmas.Int.{ints, by_lt_z}
-use borrow.Author.Differences.{up, down, same_in}
+use borrow.Author.Differences.{same_in}
 use Rattle.std.specs.Int.{int_min, int_max}
 use Rattle.std.specs.Int.Signed.{<ℤ-≤ℤ_trans}
 use Rattle.interval_specs.specs.Ends.{Ends}
-use Rattle.interval_specs.specs.Encloses.{Encloses}
-use Rattle.interval_specs.specs.Operations.{quotient_at, quotient_down, quotient_up, least_of_four, greatest_of_four}
+use Rattle.interval_specs.specs.Operations.{quotient_at, quotient_down, quotient_up}
 use Rattle.interval_specs.specs.Laws.{QuotientEncloses}
-use Rattle.interval_specs.proofs.Order.{least_of_lower, greatest_of_upper, le_pos, mono_by, wider, narrower, times_positive, parts, by_parts, to_parts, trans_ℤ, mono_front, size_is, size_positive, any_least, any_greatest, least_first, least_second, least_third, least_fourth, greatest_first, greatest_second, greatest_third, greatest_fourth}
+use Rattle.interval_specs.proofs.Order.{least_of_lower, greatest_of_upper, le_pos, mono_by, wider, narrower, times_positive, parts, by_parts, to_parts, trans_ℤ, mono_front, size_is, size_positive, any_least, any_greatest, least_first, least_second, greatest_third, greatest_fourth}
 use Rattle.interval_specs.proofs.Enclosing.{outer_ordered}
 use Rattle.interval_specs.proofs.Rounds.{floor_encloses, ceil_encloses, floor_le_ceil, floor_mono, ceil_mono}
 
@@ -20,7 +19,7 @@ down_finer n m x x' y y' some some' h =
     let c' = unsigned_abs y' in
     let p = simp parts at (to_parts (pos (m * n) *ℤ (pos c' *ℤ x)) (pos (m * n) *ℤ (pos c *ℤ x')) (mono_front (m * n) (pos c' *ℤ x) (pos c *ℤ x') k)) in
     floor_encloses m c c' (x *ℤ pos n) (x' *ℤ pos (m * n)) (size_positive y some) (size_positive y' some')
-      (by_parts (pos (m * c') *ℤ (x *ℤ pos n)) (pos c *ℤ (x' *ℤ pos (m * n))) (simp parts (omega arith)))
+    (by_parts (pos (m * c') *ℤ (x *ℤ pos n)) (pos c *ℤ (x' *ℤ pos (m * n))) (simp parts (omega arith)))
 
 up_finer : (n m : ℕ) (x x' y y' : ℤ) → pos 0 <ℤ y → pos 0 <ℤ y' → (y *ℤ x') ≤ℤ (y' *ℤ x) → quotient_up (m * n) x' y' ≤ℤ (pos m *ℤ quotient_up n x y)
 up_finer n m x x' y y' some some' h =
@@ -29,7 +28,7 @@ up_finer n m x x' y y' some some' h =
     let c' = unsigned_abs y' in
     let p = simp parts at (to_parts (pos (m * n) *ℤ (pos c *ℤ x')) (pos (m * n) *ℤ (pos c' *ℤ x)) (mono_front (m * n) (pos c *ℤ x') (pos c' *ℤ x) k)) in
     ceil_encloses m c c' (x *ℤ pos n) (x' *ℤ pos (m * n)) (size_positive y some) (size_positive y' some')
-      (by_parts (pos c *ℤ (x' *ℤ pos (m * n))) (pos (m * c') *ℤ (x *ℤ pos n)) (simp parts (omega arith)))
+    (by_parts (pos c *ℤ (x' *ℤ pos (m * n))) (pos (m * c') *ℤ (x *ℤ pos n)) (simp parts (omega arith)))
 
 -- m times a product, with the m at either factor
 turn : (m : ℕ) (c x : ℤ) → c *ℤ (pos m *ℤ x) ≡ (pos m *ℤ c) *ℤ x
@@ -39,31 +38,31 @@ turn m c x = same_in (c *ℤ (pos m *ℤ x)) ((pos m *ℤ c) *ℤ x) (simp parts
 quotient_low : (n m : ℕ) (b : Ends) (x x' y' : ℤ) (l : ℤ) → pos 0 <ℤ b.lo → pos 0 <ℤ b.hi → pos 0 <ℤ y' → (pos m *ℤ b.lo) ≤ℤ y' → y' ≤ℤ (pos m *ℤ b.hi) → (pos m *ℤ x) ≤ℤ x' → l ≤ℤ quotient_down n x b.lo → l ≤ℤ quotient_down n x b.hi → (pos m *ℤ l) ≤ℤ quotient_down (m * n) x' y'
 quotient_low n m b x x' y' l low high some p q h near far =
     by_lt_z x (pos 0)
-      (λ s.
-        let step = trans_ℤ (y' *ℤ x) ((pos m *ℤ b.lo) *ℤ x) (b.lo *ℤ x') (narrower x (pos m *ℤ b.lo) y' s p) (subst (λ z. z ≤ℤ (b.lo *ℤ x')) (turn m b.lo x) (mono_by b.lo (pos m *ℤ x) x' low h)) in
-        trans_ℤ (pos m *ℤ l) (pos m *ℤ quotient_down n x b.lo) (quotient_down (m * n) x' y') (mono_front m l (quotient_down n x b.lo) near) (down_finer n m x x' b.lo y' low some step))
-      (λ s.
-        let step = trans_ℤ (y' *ℤ x) ((pos m *ℤ b.hi) *ℤ x) (b.hi *ℤ x') (wider x y' (pos m *ℤ b.hi) s q) (subst (λ z. z ≤ℤ (b.hi *ℤ x')) (turn m b.hi x) (mono_by b.hi (pos m *ℤ x) x' high h)) in
-        trans_ℤ (pos m *ℤ l) (pos m *ℤ quotient_down n x b.hi) (quotient_down (m * n) x' y') (mono_front m l (quotient_down n x b.hi) far) (down_finer n m x x' b.hi y' high some step))
+    (λ s.
+    let step = trans_ℤ (y' *ℤ x) ((pos m *ℤ b.lo) *ℤ x) (b.lo *ℤ x') (narrower x (pos m *ℤ b.lo) y' s p) (subst (λ z. z ≤ℤ (b.lo *ℤ x')) (turn m b.lo x) (mono_by b.lo (pos m *ℤ x) x' low h)) in
+    trans_ℤ (pos m *ℤ l) (pos m *ℤ quotient_down n x b.lo) (quotient_down (m * n) x' y') (mono_front m l (quotient_down n x b.lo) near) (down_finer n m x x' b.lo y' low some step))
+    (λ s.
+    let step = trans_ℤ (y' *ℤ x) ((pos m *ℤ b.hi) *ℤ x) (b.hi *ℤ x') (wider x y' (pos m *ℤ b.hi) s q) (subst (λ z. z ≤ℤ (b.hi *ℤ x')) (turn m b.hi x) (mono_by b.hi (pos m *ℤ x) x' high h)) in
+    trans_ℤ (pos m *ℤ l) (pos m *ℤ quotient_down n x b.hi) (quotient_down (m * n) x' y') (mono_front m l (quotient_down n x b.hi) far) (down_finer n m x x' b.hi y' high some step))
 
 -- above each fine quotient is one of the two coarse quotients of the upper end
 quotient_high : (n m : ℕ) (b : Ends) (x x' y' : ℤ) (g : ℤ) → pos 0 <ℤ b.lo → pos 0 <ℤ b.hi → pos 0 <ℤ y' → (pos m *ℤ b.lo) ≤ℤ y' → y' ≤ℤ (pos m *ℤ b.hi) → x' ≤ℤ (pos m *ℤ x) → quotient_up n x b.lo ≤ℤ g → quotient_up n x b.hi ≤ℤ g → quotient_up (m * n) x' y' ≤ℤ (pos m *ℤ g)
 quotient_high n m b x x' y' g low high some p q h near far =
     by_lt_z x (pos 0)
-      (λ s.
-        let step = trans_ℤ (b.hi *ℤ x') ((pos m *ℤ b.hi) *ℤ x) (y' *ℤ x) (subst (λ z. (b.hi *ℤ x') ≤ℤ z) (turn m b.hi x) (mono_by b.hi x' (pos m *ℤ x) high h)) (narrower x y' (pos m *ℤ b.hi) s q) in
-        trans_ℤ (quotient_up (m * n) x' y') (pos m *ℤ quotient_up n x b.hi) (pos m *ℤ g) (up_finer n m x x' b.hi y' high some step) (mono_front m (quotient_up n x b.hi) g far))
-      (λ s.
-        let step = trans_ℤ (b.lo *ℤ x') ((pos m *ℤ b.lo) *ℤ x) (y' *ℤ x) (subst (λ z. (b.lo *ℤ x') ≤ℤ z) (turn m b.lo x) (mono_by b.lo x' (pos m *ℤ x) low h)) (wider x (pos m *ℤ b.lo) y' s p) in
-        trans_ℤ (quotient_up (m * n) x' y') (pos m *ℤ quotient_up n x b.lo) (pos m *ℤ g) (up_finer n m x x' b.lo y' low some step) (mono_front m (quotient_up n x b.lo) g near))
+    (λ s.
+    let step = trans_ℤ (b.hi *ℤ x') ((pos m *ℤ b.hi) *ℤ x) (y' *ℤ x) (subst (λ z. (b.hi *ℤ x') ≤ℤ z) (turn m b.hi x) (mono_by b.hi x' (pos m *ℤ x) high h)) (narrower x y' (pos m *ℤ b.hi) s q) in
+    trans_ℤ (quotient_up (m * n) x' y') (pos m *ℤ quotient_up n x b.hi) (pos m *ℤ g) (up_finer n m x x' b.hi y' high some step) (mono_front m (quotient_up n x b.hi) g far))
+    (λ s.
+    let step = trans_ℤ (b.lo *ℤ x') ((pos m *ℤ b.lo) *ℤ x) (y' *ℤ x) (subst (λ z. (b.lo *ℤ x') ≤ℤ z) (turn m b.lo x) (mono_by b.lo x' (pos m *ℤ x) low h)) (wider x (pos m *ℤ b.lo) y' s p) in
+    trans_ℤ (quotient_up (m * n) x' y') (pos m *ℤ quotient_up n x b.lo) (pos m *ℤ g) (up_finer n m x x' b.lo y' low some step) (mono_front m (quotient_up n x b.lo) g near))
 
 -- the lower end of a quotient is at most its upper end
 pub quotients_ordered : (n : ℕ) (a b : Ends) → pos 0 <ℤ b.lo → a.lo ≤ℤ a.hi → (quotient_at n a b).lo ≤ℤ (quotient_at n a b).hi
 unfolding quotient_at
 quotients_ordered n a b some o =
     trans_ℤ _ (quotient_down n a.lo b.lo) _ (least_first (quotient_down n a.lo b.lo) (quotient_down n a.lo b.hi) (quotient_down n a.hi b.lo) (quotient_down n a.hi b.hi))
-      (trans_ℤ _ (quotient_up n a.hi b.lo) _ (floor_le_ceil (a.lo *ℤ pos n) (a.hi *ℤ pos n) (unsigned_abs b.lo) (size_positive b.lo some) (wider (pos n) a.lo a.hi (pos_least n) o))
-        (greatest_third (quotient_up n a.lo b.lo) (quotient_up n a.lo b.hi) (quotient_up n a.hi b.lo) (quotient_up n a.hi b.hi)))
+    (trans_ℤ _ (quotient_up n a.hi b.lo) _ (floor_le_ceil (a.lo *ℤ pos n) (a.hi *ℤ pos n) (unsigned_abs b.lo) (size_positive b.lo some) (wider (pos n) a.lo a.hi (pos_least n) o))
+    (greatest_third (quotient_up n a.lo b.lo) (quotient_up n a.lo b.hi) (quotient_up n a.hi b.lo) (quotient_up n a.hi b.hi)))
   where
     pos_least : (n : ℕ) → pos 0 ≤ℤ pos n
     pos_least n = omega (arith, ints)
@@ -86,16 +85,16 @@ quotient_encloses n m a b a' b' finer low p q =
     let g4 = greatest_fourth (quotient_up n a.lo b.lo) (quotient_up n a.lo b.hi) (quotient_up n a.hi b.lo) (quotient_up n a.hi b.hi) in
     record {
       low = any_least (λ z. (pos m *ℤ l) ≤ℤ z) (quotient_down (m * n) a'.lo b'.lo) (quotient_down (m * n) a'.lo b'.hi) (quotient_down (m * n) a'.hi b'.lo) (quotient_down (m * n) a'.hi b'.hi)
-        (quotient_low n m b a.lo a'.lo b'.lo l low high low' q.low qo p.low l1 l2)
-        (quotient_low n m b a.lo a'.lo b'.hi l low high high' qu q.high p.low l1 l2)
-        (quotient_low n m b a.lo a'.hi b'.lo l low high low' q.low qo pu l1 l2)
-        (quotient_low n m b a.lo a'.hi b'.hi l low high high' qu q.high pu l1 l2);
+          (quotient_low n m b a.lo a'.lo b'.lo l low high low' q.low qo p.low l1 l2)
+          (quotient_low n m b a.lo a'.lo b'.hi l low high high' qu q.high p.low l1 l2)
+          (quotient_low n m b a.lo a'.hi b'.lo l low high low' q.low qo pu l1 l2)
+          (quotient_low n m b a.lo a'.hi b'.hi l low high high' qu q.high pu l1 l2);
       high = any_greatest (λ z. z ≤ℤ (pos m *ℤ g)) (quotient_up (m * n) a'.lo b'.lo) (quotient_up (m * n) a'.lo b'.hi) (quotient_up (m * n) a'.hi b'.lo) (quotient_up (m * n) a'.hi b'.hi)
-        (quotient_high n m b a.hi a'.lo b'.lo g low high low' q.low qo po g3 g4)
-        (quotient_high n m b a.hi a'.lo b'.hi g low high high' qu q.high po g3 g4)
-        (quotient_high n m b a.hi a'.hi b'.lo g low high low' q.low qo p.high g3 g4)
-        (quotient_high n m b a.hi a'.hi b'.hi g low high high' qu q.high p.high g3 g4);
-      ordered = quotients_ordered (m * n) a' b' low' p.ordered
+          (quotient_high n m b a.hi a'.lo b'.lo g low high low' q.low qo po g3 g4)
+          (quotient_high n m b a.hi a'.lo b'.hi g low high high' qu q.high po g3 g4)
+          (quotient_high n m b a.hi a'.hi b'.lo g low high low' q.low qo p.high g3 g4)
+          (quotient_high n m b a.hi a'.hi b'.hi g low high high' qu q.high p.high g3 g4);
+      ordered = quotients_ordered (m * n) a' b' low' p.ordered;
     }
 
 -- the lower end of a quotient comes from the lower end of the dividend, and the upper from the upper
@@ -105,8 +104,8 @@ quotient_lower n a b some o u =
     let more = <ℤ-≤ℤ_trans some o in
     let w = wider (pos n) a.lo a.hi (le_pos n) u in
     least_of_lower (quotient_down n a.lo b.lo) (quotient_down n a.lo b.hi) (quotient_down n a.hi b.lo) (quotient_down n a.hi b.hi)
-      (floor_mono (a.lo *ℤ pos n) (a.hi *ℤ pos n) (unsigned_abs b.lo) (size_positive b.lo some) w)
-      (floor_mono (a.lo *ℤ pos n) (a.hi *ℤ pos n) (unsigned_abs b.hi) (size_positive b.hi more) w)
+    (floor_mono (a.lo *ℤ pos n) (a.hi *ℤ pos n) (unsigned_abs b.lo) (size_positive b.lo some) w)
+    (floor_mono (a.lo *ℤ pos n) (a.hi *ℤ pos n) (unsigned_abs b.hi) (size_positive b.hi more) w)
 
 pub quotient_upper : (n : ℕ) (a b : Ends) → pos 0 <ℤ b.lo → b.lo ≤ℤ b.hi → a.lo ≤ℤ a.hi → (quotient_at n a b).hi ≡ int_max (quotient_up n a.hi b.lo) (quotient_up n a.hi b.hi)
 unfolding quotient_at
@@ -114,5 +113,5 @@ quotient_upper n a b some o u =
     let more = <ℤ-≤ℤ_trans some o in
     let w = wider (pos n) a.lo a.hi (le_pos n) u in
     greatest_of_upper (quotient_up n a.lo b.lo) (quotient_up n a.lo b.hi) (quotient_up n a.hi b.lo) (quotient_up n a.hi b.hi)
-      (ceil_mono (a.lo *ℤ pos n) (a.hi *ℤ pos n) (unsigned_abs b.lo) (size_positive b.lo some) w)
-      (ceil_mono (a.lo *ℤ pos n) (a.hi *ℤ pos n) (unsigned_abs b.hi) (size_positive b.hi more) w)
+    (ceil_mono (a.lo *ℤ pos n) (a.hi *ℤ pos n) (unsigned_abs b.lo) (size_positive b.lo some) w)
+    (ceil_mono (a.lo *ℤ pos n) (a.hi *ℤ pos n) (unsigned_abs b.hi) (size_positive b.hi more) w)

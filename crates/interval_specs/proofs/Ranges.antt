@@ -1,16 +1,15 @@
 -- The range of each result, from the ranges of what goes in. Numbers k, j, r are bounds in units of the scale.
-use Rattle.std.proofs.Common.{ℕ, ℤ, pos, negsuc, ◌≡◌, true, false, cond, ◌+◌, ◌*◌, ◌≤◌, ◌<◌, ◌^◌, ◌+ℤ◌, ◌-ℤ◌, ◌*ℤ◌, ◌≤ℤ◌, ◌<ℤ◌, unsigned_abs, max, min, int_lt, arith, subst, sym, ◌∙◌, mul-le-mul, mul-le-mul_left, mul-le-mul_right, le_trans, le_refl}
-use Rattle.std.proofs.lemmas.Int.{ints, clamps, unsigned_abs-mul}
+use Rattle.std.proofs.Common.{ℕ, ℤ, pos, negsuc, ◌≡◌, ◌+◌, ◌*◌, ◌≤◌, ◌<◌, ◌^◌, ◌+ℤ◌, ◌-ℤ◌, ◌*ℤ◌, ◌≤ℤ◌, ◌<ℤ◌, unsigned_abs, arith, subst, sym, mul-le-mul, mul-le-mul_left, le_trans, le_refl}
+use Rattle.std.proofs.lemmas.Int.{ints, unsigned_abs-mul}
 use Rattle.std.specs.Int.{int_min, int_max}
 use Rattle.std.specs.Int.Signed.{<ℤ-≤ℤ_trans}
-use borrow.Author.Differences.{up, down}
 use Rattle.interval_specs.specs.Ends.{Ends, IsHeld, IsOrdered, size_of, whole}
 use Rattle.interval_specs.specs.Ranges.{Sized, UpTo}
 use Rattle.interval_specs.specs.Rounding.{floor_over, ceil_over}
 use Rattle.interval_specs.specs.Operations.{ratio_at, sum_of, difference_of, product_at, quotient_at, square_at, multiple_of, fraction_of, absolute_of, cut_low_at, cut_high_at, hull_of, least_size, least_product, greatest_product, quotient_down, quotient_up}
-use Rattle.interval_specs.proofs.Order.{parts, by_parts, to_parts, trans_ℤ, refl_ℤ, le_pos, wider, mono_by, size_positive, either_min, either_max, any_least, any_greatest, min_left, min_right, max_left, max_right}
+use Rattle.interval_specs.proofs.Order.{parts, by_parts, to_parts, trans_ℤ, refl_ℤ, le_pos, wider, size_positive, either_min, either_max, any_least, any_greatest, min_left, min_right, max_left, max_right}
 use Rattle.interval_specs.proofs.Rounds.{floor_greatest, floor_le_ceil}
-use Rattle.interval_specs.proofs.Sizes.{floor_small, ceil_small, by_size}
+use Rattle.interval_specs.proofs.Sizes.{floor_small, ceil_small}
 use Rattle.interval_specs.proofs.ProductLaw.{products_ordered}
 use Rattle.interval_specs.proofs.QuotientLaw.{quotients_ordered}
 use Rattle.interval_specs.proofs.SizeLaws.{least_size_small}
@@ -112,6 +111,7 @@ sum_sized j k a b s t =
   where
     sums : (x y u v : ℤ) → x ≤ℤ u → y ≤ℤ v → (x +ℤ y) ≤ℤ (u +ℤ v)
     sums x y u v p q = omega (arith, ints)
+
     sizes : (x y : ℤ) → unsigned_abs x ≤ j → unsigned_abs y ≤ k → unsigned_abs (x +ℤ y) ≤ j + k
     sizes x y p q = omega (arith, ints)
 
@@ -138,6 +138,7 @@ difference_sized j k a b s t =
   where
     differences : (x y u v : ℤ) → x ≤ℤ u → y ≤ℤ v → (x -ℤ v) ≤ℤ (u -ℤ y)
     differences x y u v p q = omega (arith, ints)
+
     sizes : (x y : ℤ) → unsigned_abs x ≤ j → unsigned_abs y ≤ k → unsigned_abs (x -ℤ y) ≤ j + k
     sizes x y p q = omega (arith, ints)
 
@@ -152,7 +153,7 @@ multiple_sized k z a s =
     let q : unsigned_abs y ≤ k * unsigned_abs z = omega (arith, product_small z a.hi (unsigned_abs z) k (omega arith) (omega arith)) in
     record {
       ordered = trans_ℤ (int_min x y) x (int_max x y) (min_left x y) (max_left x y);
-      small = size_by (int_min x y) (int_max x y) (k * unsigned_abs z) (either_min (λ t. unsigned_abs t ≤ k * unsigned_abs z) x y p q) (either_max (λ t. unsigned_abs t ≤ k * unsigned_abs z) x y p q)
+      small = size_by (int_min x y) (int_max x y) (k * unsigned_abs z) (either_min (λ t. unsigned_abs t ≤ k * unsigned_abs z) x y p q) (either_max (λ t. unsigned_abs t ≤ k * unsigned_abs z) x y p q);
     }
 
 pub multiple_not_negative : (k : ℕ) (a : Ends) → pos 0 ≤ℤ a.lo → IsOrdered a → pos 0 ≤ℤ (multiple_of (pos k) a).lo
@@ -167,8 +168,8 @@ pub fraction_sized : (k r num den : ℕ) (a : Ends) → 0 < den → k * num ≤ 
 unfolding fraction_of
 fraction_sized k r num den a some h s =
     rounded_sized (a.lo *ℤ pos num) (a.hi *ℤ pos num) den r some (wider (pos num) a.lo a.hi (le_pos num) s.ordered)
-      (omega (arith, product_small a.lo (pos num) k num (omega arith) (omega arith)))
-      (omega (arith, product_small a.hi (pos num) k num (omega arith) (omega arith)))
+    (omega (arith, product_small a.lo (pos num) k num (omega arith) (omega arith)))
+    (omega (arith, product_small a.hi (pos num) k num (omega arith) (omega arith)))
 
 pub fraction_not_negative : (num den : ℕ) (a : Ends) → 0 < den → pos 0 ≤ℤ a.lo → pos 0 ≤ℤ (fraction_of num den a).lo
 unfolding fraction_of
@@ -188,8 +189,8 @@ product_sized n r j k a b some h s t =
     let bl : unsigned_abs b.lo ≤ k = omega arith in
     let bh : unsigned_abs b.hi ≤ k = omega arith in
     rounded_sized (least_product a b) (greatest_product a b) n r some (products_ordered a b)
-      (any_least (λ z. unsigned_abs z ≤ r * n) (a.lo *ℤ b.lo) (a.lo *ℤ b.hi) (a.hi *ℤ b.lo) (a.hi *ℤ b.hi) (corner a.lo b.lo al bl) (corner a.lo b.hi al bh) (corner a.hi b.lo ah bl) (corner a.hi b.hi ah bh))
-      (any_greatest (λ z. unsigned_abs z ≤ r * n) (a.lo *ℤ b.lo) (a.lo *ℤ b.hi) (a.hi *ℤ b.lo) (a.hi *ℤ b.hi) (corner a.lo b.lo al bl) (corner a.lo b.hi al bh) (corner a.hi b.lo ah bl) (corner a.hi b.hi ah bh))
+    (any_least (λ z. unsigned_abs z ≤ r * n) (a.lo *ℤ b.lo) (a.lo *ℤ b.hi) (a.hi *ℤ b.lo) (a.hi *ℤ b.hi) (corner a.lo b.lo al bl) (corner a.lo b.hi al bh) (corner a.hi b.lo ah bl) (corner a.hi b.hi ah bh))
+    (any_greatest (λ z. unsigned_abs z ≤ r * n) (a.lo *ℤ b.lo) (a.lo *ℤ b.hi) (a.hi *ℤ b.lo) (a.hi *ℤ b.hi) (corner a.lo b.lo al bl) (corner a.lo b.hi al bh) (corner a.hi b.lo ah bl) (corner a.hi b.hi ah bh))
 
 pub product_not_negative : (n : ℕ) (a b : Ends) → 0 < n → pos 0 ≤ℤ a.lo → IsOrdered a → pos 0 ≤ℤ b.lo → IsOrdered b → pos 0 ≤ℤ (product_at n a b).lo
 unfolding product_at
@@ -197,8 +198,8 @@ product_not_negative n a b some p o q u =
     let ah = trans_ℤ (pos 0) a.lo a.hi p o in
     let bh = trans_ℤ (pos 0) b.lo b.hi q u in
     floor_not_negative (least_product a b) n some
-      (any_least (λ z. pos 0 ≤ℤ z) (a.lo *ℤ b.lo) (a.lo *ℤ b.hi) (a.hi *ℤ b.lo) (a.hi *ℤ b.hi)
-        (product_not_negative_ℤ a.lo b.lo p q) (product_not_negative_ℤ a.lo b.hi p bh) (product_not_negative_ℤ a.hi b.lo ah q) (product_not_negative_ℤ a.hi b.hi ah bh))
+    (any_least (λ z. pos 0 ≤ℤ z) (a.lo *ℤ b.lo) (a.lo *ℤ b.hi) (a.hi *ℤ b.lo) (a.hi *ℤ b.hi)
+    (product_not_negative_ℤ a.lo b.lo p q) (product_not_negative_ℤ a.lo b.hi p bh) (product_not_negative_ℤ a.hi b.lo ah q) (product_not_negative_ℤ a.hi b.hi ah bh))
 
 pub product_up_to : (n r j k : ℕ) (a b : Ends) → 0 < n → j * k ≤ r * n → UpTo j a → UpTo k b → UpTo r (product_at n a b)
 product_up_to n r j k a b some h s t =
@@ -245,10 +246,10 @@ quotient_sized n r k c a b low o wide h s =
     record {
       ordered = quotients_ordered n a b low s.ordered;
       small = size_by (quotient_at n a b).lo (quotient_at n a b).hi r
-        (any_least (λ z. unsigned_abs z ≤ r) (quotient_down n a.lo b.lo) (quotient_down n a.lo b.hi) (quotient_down n a.hi b.lo) (quotient_down n a.hi b.hi)
+          (any_least (λ z. unsigned_abs z ≤ r) (quotient_down n a.lo b.lo) (quotient_down n a.lo b.hi) (quotient_down n a.hi b.lo) (quotient_down n a.hi b.hi)
           (down a.lo b.lo al low near) (down a.lo b.hi al high far) (down a.hi b.lo ah low near) (down a.hi b.hi ah high far))
-        (any_greatest (λ z. unsigned_abs z ≤ r) (quotient_up n a.lo b.lo) (quotient_up n a.lo b.hi) (quotient_up n a.hi b.lo) (quotient_up n a.hi b.hi)
-          (up a.lo b.lo al low near) (up a.lo b.hi al high far) (up a.hi b.lo ah low near) (up a.hi b.hi ah high far))
+          (any_greatest (λ z. unsigned_abs z ≤ r) (quotient_up n a.lo b.lo) (quotient_up n a.lo b.hi) (quotient_up n a.hi b.lo) (quotient_up n a.hi b.hi)
+          (up a.lo b.lo al low near) (up a.lo b.hi al high far) (up a.hi b.lo ah low near) (up a.hi b.hi ah high far));
     }
 
 pub quotient_not_negative : (n : ℕ) (a b : Ends) → pos 0 <ℤ b.lo → IsOrdered b → pos 0 ≤ℤ a.lo → IsOrdered a → pos 0 ≤ℤ (quotient_at n a b).lo
@@ -258,7 +259,7 @@ quotient_not_negative n a b low o p u =
     let ah = trans_ℤ (pos 0) a.lo a.hi p u in
     let down = λ (x y : ℤ) (p : pos 0 ≤ℤ x) (q : pos 0 <ℤ y). floor_not_negative (x *ℤ pos n) (unsigned_abs y) (size_positive y q) (product_not_negative_ℤ x (pos n) p (le_pos n)) in
     any_least (λ z. pos 0 ≤ℤ z) (quotient_down n a.lo b.lo) (quotient_down n a.lo b.hi) (quotient_down n a.hi b.lo) (quotient_down n a.hi b.hi)
-      (down a.lo b.lo p low) (down a.lo b.hi p high) (down a.hi b.lo ah low) (down a.hi b.hi ah high)
+    (down a.lo b.lo p low) (down a.lo b.hi p high) (down a.hi b.lo ah low) (down a.hi b.hi ah high)
 
 pub quotient_up_to : (n r k c : ℕ) (a b : Ends) → pos 0 <ℤ b.lo → IsOrdered b → c ≤ unsigned_abs b.lo → k * n ≤ r * c → UpTo k a → UpTo r (quotient_at n a b)
 quotient_up_to n r k c a b low o wide h u =
@@ -275,7 +276,7 @@ cut_low_sized n k z a h s =
     let u : unsigned_abs a.hi ≤ k = omega arith in
     record {
       ordered = either_max (λ t. t ≤ℤ int_max a.hi place) a.lo place (trans_ℤ a.lo a.hi (int_max a.hi place) s.ordered (max_left a.hi place)) (max_right a.hi place);
-      small = size_by (int_max a.lo place) (int_max a.hi place) k (either_max (λ t. unsigned_abs t ≤ k) a.lo place l p) (either_max (λ t. unsigned_abs t ≤ k) a.hi place u p)
+      small = size_by (int_max a.lo place) (int_max a.hi place) k (either_max (λ t. unsigned_abs t ≤ k) a.lo place l p) (either_max (λ t. unsigned_abs t ≤ k) a.hi place u p);
     }
 
 -- a cut at a natural number leaves nothing negative
@@ -295,7 +296,7 @@ cut_high_sized n k z a h s =
     let u : unsigned_abs a.hi ≤ k = omega arith in
     record {
       ordered = either_min (λ t. int_min a.lo place ≤ℤ t) a.hi place (trans_ℤ (int_min a.lo place) a.lo a.hi (min_left a.lo place) s.ordered) (min_right a.lo place);
-      small = size_by (int_min a.lo place) (int_min a.hi place) k (either_min (λ t. unsigned_abs t ≤ k) a.lo place l p) (either_min (λ t. unsigned_abs t ≤ k) a.hi place u p)
+      small = size_by (int_min a.lo place) (int_min a.hi place) k (either_min (λ t. unsigned_abs t ≤ k) a.lo place l p) (either_min (λ t. unsigned_abs t ≤ k) a.hi place u p);
     }
 
 pub hull_sized : (k : ℕ) (a b : Ends) → Sized k a → Sized k b → Sized k (hull_of a b)
@@ -307,7 +308,7 @@ hull_sized k a b s t =
     let v : unsigned_abs b.hi ≤ k = omega arith in
     record {
       ordered = trans_ℤ (int_min a.lo b.lo) a.lo (int_max a.hi b.hi) (min_left a.lo b.lo) (trans_ℤ a.lo a.hi (int_max a.hi b.hi) s.ordered (max_left a.hi b.hi));
-      small = size_by (int_min a.lo b.lo) (int_max a.hi b.hi) k (either_min (λ z. unsigned_abs z ≤ k) a.lo b.lo p q) (either_max (λ z. unsigned_abs z ≤ k) a.hi b.hi u v)
+      small = size_by (int_min a.lo b.lo) (int_max a.hi b.hi) k (either_min (λ z. unsigned_abs z ≤ k) a.lo b.lo p q) (either_max (λ z. unsigned_abs z ≤ k) a.hi b.hi u v);
     }
 
 pub hull_not_negative : (a b : Ends) → pos 0 ≤ℤ a.lo → pos 0 ≤ℤ b.lo → pos 0 ≤ℤ (hull_of a b).lo

@@ -1,6 +1,5 @@
 -- The laws of a ratio and of a multiple by a fraction.
-use Rattle.std.proofs.Common.{ℕ, ℤ, pos, ◌*◌, ◌*ℤ◌, ◌≤ℤ◌, arith}
-use Rattle.std.proofs.lemmas.Int.{ints}
+use Rattle.std.proofs.Common.{pos, ◌*◌, ◌*ℤ◌, arith}
 use Rattle.interval_specs.specs.Operations.{ratio_at, fraction_of}
 use Rattle.interval_specs.specs.Laws.{RatioEncloses, FractionEncloses}
 use Rattle.interval_specs.proofs.Order.{parts, by_parts, to_parts, mono_front, wider, le_pos, refl_ℤ}
@@ -14,7 +13,7 @@ ratio_encloses n m p q some =
     record {
       low = floor_encloses m q q coarse fine some some (by_parts (pos (m * q) *ℤ coarse) (pos q *ℤ fine) (simp parts (omega arith)));
       high = ceil_encloses m q q coarse fine some some (by_parts (pos q *ℤ fine) (pos (m * q) *ℤ coarse) (simp parts (omega arith)));
-      ordered = floor_le_ceil fine fine q some (refl_ℤ fine)
+      ordered = floor_le_ceil fine fine q some (refl_ℤ fine);
     }
 
 pub fraction_encloses : FractionEncloses
@@ -25,5 +24,5 @@ fraction_encloses m num den a a' some p =
     record {
       low = floor_encloses m den den (a.lo *ℤ pos num) (a'.lo *ℤ pos num) some some (by_parts (pos (m * den) *ℤ (a.lo *ℤ pos num)) (pos den *ℤ (a'.lo *ℤ pos num)) (simp parts (omega arith)));
       high = ceil_encloses m den den (a.hi *ℤ pos num) (a'.hi *ℤ pos num) some some (by_parts (pos den *ℤ (a'.hi *ℤ pos num)) (pos (m * den) *ℤ (a.hi *ℤ pos num)) (simp parts (omega arith)));
-      ordered = floor_le_ceil (a'.lo *ℤ pos num) (a'.hi *ℤ pos num) den some (wider (pos num) a'.lo a'.hi (le_pos num) p.ordered)
+      ordered = floor_le_ceil (a'.lo *ℤ pos num) (a'.hi *ℤ pos num) den some (wider (pos num) a'.lo a'.hi (le_pos num) p.ordered);
     }

@@ -1,5 +1,5 @@
 -- The range of each root, from the range of what it is taken of.
-use Rattle.std.proofs.Common.{ℕ, ℤ, pos, negsuc, ◌*◌, ◌≤◌, ◌≤ℤ◌, unsigned_abs, arith, mul-le-mul_right, le_trans}
+use Rattle.std.proofs.Common.{ℕ, ℤ, pos, ◌*◌, ◌≤◌, ◌≤ℤ◌, unsigned_abs, arith, mul-le-mul_right, le_trans}
 use Rattle.std.proofs.lemmas.Int.{ints}
 use Rattle.interval_specs.specs.Ends.{Ends}
 use Rattle.interval_specs.specs.Ranges.{UpTo}
@@ -29,7 +29,7 @@ sqrt_up_to n r k a h u =
     record {
       not_negative = le_pos (root_below square (unsigned_abs a.lo * n));
       ordered = ordered_roots square square_power (unsigned_abs a.lo * n) (unsigned_abs a.hi * n) (sizes_in_order a.lo a.hi n u.not_negative u.ordered);
-      below = as_end (root_above square (unsigned_abs a.hi * n)) r (sqrt_size n r a.hi (le_trans (mul-le-mul_right n top) h))
+      below = as_end (root_above square (unsigned_abs a.hi * n)) r (sqrt_size n r a.hi (le_trans (mul-le-mul_right n top) h));
     }
 
 pub cbrt_up_to : (n r k : ℕ) (a : Ends) → k * (n * n) ≤ r * r * r → UpTo k a → UpTo r (cbrt_at n a)
@@ -39,7 +39,7 @@ cbrt_up_to n r k a h u =
     record {
       not_negative = le_pos (root_below cube (unsigned_abs a.lo * (n * n)));
       ordered = ordered_roots cube cube_power (unsigned_abs a.lo * (n * n)) (unsigned_abs a.hi * (n * n)) (sizes_in_order a.lo a.hi (n * n) u.not_negative u.ordered);
-      below = as_end (root_above cube (unsigned_abs a.hi * (n * n))) r (cbrt_size n r a.hi (le_trans (mul-le-mul_right (n * n) top) h))
+      below = as_end (root_above cube (unsigned_abs a.hi * (n * n))) r (cbrt_size n r a.hi (le_trans (mul-le-mul_right (n * n) top) h));
     }
 
 -- the lower end of a square root is at least whatever has a small square

@@ -1,9 +1,9 @@
 -- Rounding down and up by their inequalities: nothing above this file looks into the two functions.
-use Rattle.std.proofs.Common.{ℕ, ℤ, pos, negsuc, suc, ◌≡◌, ◌+◌, ◌*◌, ◌/◌, ◌%◌, ◌≤◌, ◌<◌, ◌+ℤ◌, ◌*ℤ◌, neg_ℤ, ◌<ℤ◌, ◌≤ℤ◌, arith, mul-le-mul_left, div-add-mod', mod-lt, add-one-le, unsigned_abs, refl, ap, subst, sym, div-le_self}
+use Rattle.std.proofs.Common.{ℕ, ℤ, pos, negsuc, suc, ◌≡◌, ◌*◌, ◌/◌, ◌%◌, ◌≤◌, ◌<◌, ◌+ℤ◌, ◌*ℤ◌, neg_ℤ, ◌<ℤ◌, ◌≤ℤ◌, arith, mul-le-mul_left, div-add-mod', mod-lt, add-one-le, unsigned_abs, refl, ap, subst, sym, div-le_self}
 use Rattle.std.proofs.lemmas.Int.{ints, by_lt_z}
 use Rattle.std.proofs.lemmas.Nat.{le-div, div_below}
 use Rattle.std.specs.Int.{int_div_euclid}
-use borrow.Author.Differences.{up, down, sum_is_lem}
+use borrow.Author.Differences.{sum_is_lem}
 use Rattle.interval_specs.specs.Rounding.{floor_over, ceil_over}
 use Rattle.interval_specs.proofs.Order.{parts, by_parts, by_parts_lt, to_parts, to_parts_lt, cancel_front, mono_front, antisym_ℤ, trans_ℤ}
 
@@ -88,11 +88,11 @@ floor_is z k n some low high =
     let q = to_parts_lt z (k *ℤ pos n +ℤ pos n) high in
     let s = simp parts at (sum_is_lem (k *ℤ pos n) (pos n)) in
     by_lt_z k f
-      (λ l.
-        let t = to_parts_lt k f l in
-        let more = mul-le-mul_left n (add-one-le t) in
-        absurd (omega arith))
-      (λ l. antisym_ℤ k f up_to l)
+    (λ l.
+    let t = to_parts_lt k f l in
+    let more = mul-le-mul_left n (add-one-le t) in
+    absurd (omega arith))
+    (λ l. antisym_ℤ k f up_to l)
 
 -- the ceiling, by its two inequalities
 pub ceil_is : (z k : ℤ) (n : ℕ) → 0 < n → z ≤ℤ (k *ℤ pos n) → (k *ℤ pos n) <ℤ (z +ℤ pos n) → k ≡ ceil_over z n
@@ -103,11 +103,11 @@ ceil_is z k n some high low =
     let q = simp parts at (to_parts_lt (k *ℤ pos n) (z +ℤ pos n) low) in
     let s = sum_is_lem z (pos n) in
     by_lt_z f k
-      (λ l.
-        let t = to_parts_lt f k l in
-        let more = mul-le-mul_left n (add-one-le t) in
-        absurd (omega arith))
-      (λ l. antisym_ℤ k f l down_to)
+    (λ l.
+    let t = to_parts_lt f k l in
+    let more = mul-le-mul_left n (add-one-le t) in
+    absurd (omega arith))
+    (λ l. antisym_ℤ k f l down_to)
 
 -- the quotient of the code, whose remainder is not negative, is the floor
 pub div_euclid_is : (z d : ℤ) → pos 0 <ℤ d → int_div_euclid z d ≡ floor_over z (unsigned_abs d)
@@ -123,11 +123,11 @@ floor_near z n some =
     let s = simp parts at (sum_is_lem (f *ℤ pos n) (pos n)) in
     let t = sum_is_lem f (pos 1) in
     by_lt_z z (f *ℤ pos n +ℤ pos n) (λ l. l)
-      (λ l.
-        let p = to_parts (f *ℤ pos n +ℤ pos n) z l in
-        let ones = ap (λ x. x * n) t in
-        let more = floor_greatest z (f +ℤ pos 1) n some (by_parts ((f +ℤ pos 1) *ℤ pos n) z (simp parts (omega arith))) in
-        absurd (omega (arith, ints)))
+    (λ l.
+    let p = to_parts (f *ℤ pos n +ℤ pos n) z l in
+    let ones = ap (λ x. x * n) t in
+    let more = floor_greatest z (f +ℤ pos 1) n some (by_parts ((f +ℤ pos 1) *ℤ pos n) z (simp parts (omega arith))) in
+    absurd (omega (arith, ints)))
 
 -- the ceiling where the floor is the quotient itself
 pub ceil_here : (f z : ℤ) (n : ℕ) → 0 < n → f ≡ floor_over z n → z ≤ℤ (f *ℤ pos n) → f ≡ ceil_over z n
@@ -146,8 +146,8 @@ ceil_next f z n some e h =
     let p = to_parts_lt z (f *ℤ pos n +ℤ pos n) near in
     let q = simp parts at (to_parts_lt (f *ℤ pos n) z h) in
     ceil_is z (f +ℤ pos 1) n some
-      (by_parts z ((f +ℤ pos 1) *ℤ pos n) (simp parts (omega arith)))
-      (by_parts_lt ((f +ℤ pos 1) *ℤ pos n) (z +ℤ pos n) (simp parts (omega arith)))
+    (by_parts z ((f +ℤ pos 1) *ℤ pos n) (simp parts (omega arith)))
+    (by_parts_lt ((f +ℤ pos 1) *ℤ pos n) (z +ℤ pos n) (simp parts (omega arith)))
 
 -- a greater dividend has no lesser floor, and no lesser ceiling
 pub floor_mono : (z y : ℤ) (n : ℕ) → 0 < n → z ≤ℤ y → floor_over z n ≤ℤ floor_over y n

@@ -1,5 +1,5 @@
 -- The laws of a size and of a square.
-use Rattle.std.proofs.Common.{ℕ, ℤ, pos, negsuc, ◌≡◌, Bool, true, false, ◌&&◌, ◌+◌, ◌*◌, ◌≤◌, ◌<◌, ◌*ℤ◌, ◌≤ℤ◌, ◌<ℤ◌, unsigned_abs, min, max, int_le, if◌then◌else◌, arith, subst, sym, mul-pos, mul-le-mul, mul-le-mul_left, ap, refl, neg_ℤ, ◌∙◌}
+use Rattle.std.proofs.Common.{ℕ, ℤ, pos, negsuc, ◌≡◌, Bool, true, false, ◌&&◌, ◌*◌, ◌≤◌, ◌<◌, ◌*ℤ◌, ◌≤ℤ◌, ◌<ℤ◌, unsigned_abs, min, max, int_le, if◌then◌else◌, arith, subst, mul-pos, mul-le-mul, mul-le-mul_left, ap, refl, neg_ℤ, ◌∙◌}
 use Rattle.std.proofs.lemmas.Int.{ints, clamps, by_lt_z}
 use Rattle.std.specs.Int.{int_max}
 use Rattle.interval_specs.specs.Rounding.{floor_over, ceil_over}
@@ -8,7 +8,7 @@ use Rattle.interval_specs.specs.Ends.{Ends, size_of}
 use Rattle.interval_specs.specs.Encloses.{Encloses}
 use Rattle.interval_specs.specs.Operations.{absolute_of, square_at, least_size, holds_zero}
 use Rattle.interval_specs.specs.Laws.{AbsoluteEncloses, SquareEncloses}
-use Rattle.interval_specs.proofs.Order.{antisym_ℤ, up_small, down_small, parts, by_parts, to_parts, trans_ℤ, times_positive, times_negative}
+use Rattle.interval_specs.proofs.Order.{antisym_ℤ, up_small, down_small, parts, to_parts, trans_ℤ, times_positive, times_negative}
 use Rattle.interval_specs.proofs.Sizes.{by_size}
 use Rattle.interval_specs.proofs.ProductLaw.{squared_low, squared_high}
 use Rattle.interval_specs.proofs.Rounds.{floor_encloses, ceil_encloses, floor_le_ceil}
@@ -71,7 +71,7 @@ within_size m a x h k =
 pub least_size_finer : (m : ℕ) (a a' : Ends) → 0 < m → Encloses m a a' → m * least_size a ≤ least_size a'
 least_size_finer m a a' finer p =
     by_lt_z (pos 0) a.lo above
-      (λ l. by_lt_z a.hi (pos 0) below (λ h. let e = ap (λ (t : ℕ). m * t) (least_size_around a l h) in omega arith))
+    (λ l. by_lt_z a.hi (pos 0) below (λ h. let e = ap (λ (t : ℕ). m * t) (least_size_around a l h) in omega arith))
   where
     above : pos 0 <ℤ a.lo → m * least_size a ≤ least_size a'
     above s =
@@ -85,6 +85,7 @@ least_size_finer m a a' finer p =
         let less : min (unsigned_abs a.lo) (unsigned_abs a.hi) ≤ unsigned_abs a.lo = omega arith in
         let k = mul-le-mul_left m less in
         omega arith
+
     below : a.hi <ℤ pos 0 → m * least_size a ≤ least_size a'
     below s =
         let o = trans_ℤ a'.lo a'.hi (pos m *ℤ a.hi) p.ordered p.high in
@@ -133,7 +134,7 @@ square_encloses n m a a' some finer p =
     record {
       low = floor_encloses m n (m * n) (pos (x * x)) (pos (x' * x')) some fine (squared_low n m (pos (x * x)) (pos (x' * x')) (omega (arith, ints)));
       high = ceil_encloses m n (m * n) (pos (y * y)) (pos (y' * y')) some fine (squared_high n m (pos (y * y)) (pos (y' * y')) (omega (arith, ints)));
-      ordered = floor_le_ceil (pos (x' * x')) (pos (y' * y')) (m * n) fine (omega (arith, ints))
+      ordered = floor_le_ceil (pos (x' * x')) (pos (y' * y')) (m * n) fine (omega (arith, ints));
     }
 
 -- ---- the size by its cases
@@ -163,8 +164,8 @@ pub absolute_above : (a : Ends) → pos 0 ≤ℤ a.lo → a.lo ≤ℤ a.hi → a
 unfolding absolute_of
 absolute_above a p o =
     let low : pos (least_size a) ≡ a.lo = by_lt_z (pos 0) a.lo
-      (λ s. ap pos (least_size_above a s) ∙ lesser_above a.lo a.hi p o)
-      (λ s. ap pos (least_size_around a s (trans_ℤ (pos 0) a.lo a.hi p o)) ∙ antisym_ℤ (pos 0) a.lo p s) in
+    (λ s. ap pos (least_size_above a s) ∙ lesser_above a.lo a.hi p o)
+    (λ s. ap pos (least_size_around a s (trans_ℤ (pos 0) a.lo a.hi p o)) ∙ antisym_ℤ (pos 0) a.lo p s) in
     λ i. record { lo = low i; hi = greater_above a.lo a.hi p o i }
 
 -- one that is not positive is turned round
@@ -172,8 +173,8 @@ pub absolute_below : (a : Ends) → a.hi ≤ℤ pos 0 → a.lo ≤ℤ a.hi → a
 unfolding absolute_of
 absolute_below a p o =
     let low : pos (least_size a) ≡ neg_ℤ a.hi = by_lt_z a.hi (pos 0)
-      (λ s. ap pos (least_size_below a s) ∙ lesser_below a.lo a.hi p o)
-      (λ s. ap pos (least_size_around a (trans_ℤ a.lo a.hi (pos 0) o p) s) ∙ ap neg_ℤ (antisym_ℤ (pos 0) a.hi s p)) in
+    (λ s. ap pos (least_size_below a s) ∙ lesser_below a.lo a.hi p o)
+    (λ s. ap pos (least_size_around a (trans_ℤ a.lo a.hi (pos 0) o p) s) ∙ ap neg_ℤ (antisym_ℤ (pos 0) a.hi s p)) in
     λ i. record { lo = low i; hi = greater_below a.lo a.hi p o i }
 
 -- one that holds 0 begins there

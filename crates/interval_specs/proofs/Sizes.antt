@@ -1,13 +1,12 @@
 -- How large rounded quotients are.
-use Rattle.std.proofs.Common.{ℕ, ℤ, pos, negsuc, suc, ◌≡◌, ◌+◌, ◌-◌, ◌*◌, neg_ℤ, ◌/◌, ◌%◌, ◌≤◌, ◌<◌, ◌^◌, ◌*ℤ◌, ◌≤ℤ◌, ◌<ℤ◌, unsigned_abs, arith, ap, div-le_self, div-add-mod', mod-lt, ⊎_elim}
+use Rattle.std.proofs.Common.{ℕ, ℤ, pos, negsuc, ◌≡◌, ◌+◌, ◌-◌, ◌*◌, neg_ℤ, ◌/◌, ◌%◌, ◌≤◌, ◌<◌, ◌^◌, ◌*ℤ◌, ◌<ℤ◌, unsigned_abs, arith, ap, div-add-mod', mod-lt, ⊎_elim}
 use Rattle.std.proofs.lemmas.Bool.{cases_lt}
 use Rattle.std.proofs.lemmas.Int.{ints}
 use Rattle.std.proofs.lemmas.Nat.{div_below}
 use borrow.Author.Differences.{up, down}
 use Rattle.interval_specs.specs.Rounding.{floor_over, ceil_over}
-use Rattle.interval_specs.specs.Ends.{Ends, IsHeld}
-use Rattle.interval_specs.proofs.Order.{parts, by_parts, to_parts, cancel_front, mono_front}
-use Rattle.interval_specs.proofs.Rounds.{floor_below, floor_greatest, ceil_above, ceil_least, floor_le_ceil}
+use Rattle.interval_specs.proofs.Order.{parts, by_parts, to_parts, cancel_front}
+use Rattle.interval_specs.proofs.Rounds.{floor_below, floor_greatest}
 
 -- a size at most b, as two inequalities, and back
 pub between : (z : ℤ) (b : ℕ) → unsigned_abs z ≤ b → (up z ≤ b + down z) × (down z ≤ b + up z)
@@ -44,7 +43,7 @@ floor_turned (negsuc a) (pos n) some h k =
     let p : 0 < n = omega (arith, ints) in
     let r : a % n < n = mod-lt a p in
     ⊎_elim
-      (λ l. let z : a / n < 1 = div_below a n 1 p (omega arith) in let zero : a / n ≡ 0 = omega arith in let none = ap (λ (t : ℕ). t * n) zero in omega (arith, ints))
-      (λ l. omega (arith, ints))
-      (cases_lt a n)
+    (λ l. let z : a / n < 1 = div_below a n 1 p (omega arith) in let zero : a / n ≡ 0 = omega arith in let none = ap (λ (t : ℕ). t * n) zero in omega (arith, ints))
+    (λ l. omega (arith, ints))
+    (cases_lt a n)
 floor_turned z (negsuc n) some h k = absurd (omega (arith, ints))

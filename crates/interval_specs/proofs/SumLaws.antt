@@ -1,5 +1,5 @@
 -- The laws of a sum, a difference and a whole multiple.
-use Rattle.std.proofs.Common.{ℕ, ℤ, pos, ◌≡◌, ◌+◌, ◌*◌, ◌≤◌, ◌+ℤ◌, ◌-ℤ◌, ◌*ℤ◌, neg_ℤ, ◌≤ℤ◌, arith, subst, sym}
+use Rattle.std.proofs.Common.{ℕ, ℤ, pos, ◌+ℤ◌, ◌-ℤ◌, ◌*ℤ◌, neg_ℤ, ◌≤ℤ◌, arith, subst, sym}
 use Rattle.std.proofs.lemmas.Int.{ints}
 use Rattle.std.specs.Int.{int_min, int_max}
 use Rattle.interval_specs.specs.Operations.{sum_of, difference_of, multiple_of}
@@ -40,7 +40,7 @@ sum_encloses m a b a' b' p q =
     record {
       low = sum_above m a.lo b.lo a'.lo b'.lo p.low q.low;
       high = sum_below m a.hi b.hi a'.hi b'.hi p.high q.high;
-      ordered = sum_ordered a'.lo b'.lo a'.hi b'.hi p.ordered q.ordered
+      ordered = sum_ordered a'.lo b'.lo a'.hi b'.hi p.ordered q.ordered;
     }
 
 pub difference_encloses : DifferenceEncloses
@@ -49,7 +49,7 @@ difference_encloses m a b a' b' p q =
     record {
       low = sum_above m a.lo (neg_ℤ b.hi) a'.lo (neg_ℤ b'.hi) p.low (neg_above m b.hi b'.hi q.high);
       high = sum_below m a.hi (neg_ℤ b.lo) a'.hi (neg_ℤ b'.lo) p.high (neg_below m b.lo b'.lo q.low);
-      ordered = difference_ordered a'.lo b'.lo a'.hi b'.hi p.ordered q.ordered
+      ordered = difference_ordered a'.lo b'.lo a'.hi b'.hi p.ordered q.ordered;
     }
   where
     difference_ordered : (x y u v : ℤ) → x ≤ℤ u → y ≤ℤ v → (x -ℤ v) ≤ℤ (u -ℤ y)
@@ -60,15 +60,15 @@ least_below : (m : ℕ) (k l h x : ℤ) → (pos m *ℤ l) ≤ℤ x → x ≤ℤ
 least_below m k l h x p q =
     let least = int_min (k *ℤ l) (k *ℤ h) in
     between_low (pos m *ℤ least) k (pos m *ℤ l) x (pos m *ℤ h) p q
-      (subst (λ z. (pos m *ℤ least) ≤ℤ z) (mul_swap_ℤ (pos m) k l) (mono_front m least (k *ℤ l) (min_left (k *ℤ l) (k *ℤ h))))
-      (subst (λ z. (pos m *ℤ least) ≤ℤ z) (mul_swap_ℤ (pos m) k h) (mono_front m least (k *ℤ h) (min_right (k *ℤ l) (k *ℤ h))))
+    (subst (λ z. (pos m *ℤ least) ≤ℤ z) (mul_swap_ℤ (pos m) k l) (mono_front m least (k *ℤ l) (min_left (k *ℤ l) (k *ℤ h))))
+    (subst (λ z. (pos m *ℤ least) ≤ℤ z) (mul_swap_ℤ (pos m) k h) (mono_front m least (k *ℤ h) (min_right (k *ℤ l) (k *ℤ h))))
 
 greatest_above : (m : ℕ) (k l h x : ℤ) → (pos m *ℤ l) ≤ℤ x → x ≤ℤ (pos m *ℤ h) → (k *ℤ x) ≤ℤ (pos m *ℤ int_max (k *ℤ l) (k *ℤ h))
 greatest_above m k l h x p q =
     let most = int_max (k *ℤ l) (k *ℤ h) in
     between_high (pos m *ℤ most) k (pos m *ℤ l) x (pos m *ℤ h) p q
-      (subst (λ z. z ≤ℤ (pos m *ℤ most)) (mul_swap_ℤ (pos m) k l) (mono_front m (k *ℤ l) most (max_left (k *ℤ l) (k *ℤ h))))
-      (subst (λ z. z ≤ℤ (pos m *ℤ most)) (mul_swap_ℤ (pos m) k h) (mono_front m (k *ℤ h) most (max_right (k *ℤ l) (k *ℤ h))))
+    (subst (λ z. z ≤ℤ (pos m *ℤ most)) (mul_swap_ℤ (pos m) k l) (mono_front m (k *ℤ l) most (max_left (k *ℤ l) (k *ℤ h))))
+    (subst (λ z. z ≤ℤ (pos m *ℤ most)) (mul_swap_ℤ (pos m) k h) (mono_front m (k *ℤ h) most (max_right (k *ℤ l) (k *ℤ h))))
 
 pub multiple_encloses : MultipleEncloses
 unfolding multiple_of
@@ -78,5 +78,5 @@ multiple_encloses m k a a' p =
     record {
       low = either_min (λ z. (pos m *ℤ int_min (k *ℤ a.lo) (k *ℤ a.hi)) ≤ℤ z) (k *ℤ a'.lo) (k *ℤ a'.hi) (least_below m k a.lo a.hi a'.lo p.low over) (least_below m k a.lo a.hi a'.hi under p.high);
       high = either_max (λ z. z ≤ℤ (pos m *ℤ int_max (k *ℤ a.lo) (k *ℤ a.hi))) (k *ℤ a'.lo) (k *ℤ a'.hi) (greatest_above m k a.lo a.hi a'.lo p.low over) (greatest_above m k a.lo a.hi a'.hi under p.high);
-      ordered = trans_ℤ _ (k *ℤ a'.lo) _ (min_left (k *ℤ a'.lo) (k *ℤ a'.hi)) (max_left (k *ℤ a'.lo) (k *ℤ a'.hi))
+      ordered = trans_ℤ _ (k *ℤ a'.lo) _ (min_left (k *ℤ a'.lo) (k *ℤ a'.hi)) (max_left (k *ℤ a'.lo) (k *ℤ a'.hi));
     }

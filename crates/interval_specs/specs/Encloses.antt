@@ -1,5 +1,5 @@
 -- Enclosing across scales.
-use Rattle.std.specs.Prelude.{ℕ, ℤ, pos, ◌*ℤ◌, ◌≤ℤ◌}
+use Rattle.std.specs.Prelude.{ℕ, pos, ◌*ℤ◌, ◌≤ℤ◌}
 use Rattle.interval_specs.specs.Ends.{Ends}
 
 -- a at some scale n encloses b at the scale m * n, whose units are m times finer. At m = 1 this is inclusion.

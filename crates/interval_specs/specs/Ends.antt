@@ -1,5 +1,5 @@
 -- An interval of whole numbers, by its two ends. At a scale n each end counts n-ths.
-use Rattle.std.specs.Prelude.{ℕ, ℤ, pos, neg_ℤ, ◌*◌, ◌^◌, ◌≤◌, ◌≤ℤ◌, max, unsigned_abs}
+use Rattle.std.specs.Prelude.{ℕ, ℤ, pos, ◌^◌, ◌≤◌, ◌≤ℤ◌, max, unsigned_abs}
 
 -- the lower end and the upper end
 pub record Ends : Type 0 where

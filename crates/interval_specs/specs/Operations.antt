@@ -50,7 +50,7 @@ unfoldable pub quotient_at : ℕ → Ends → Ends → Ends
 quotient_at n a b =
     record {
       lo = least_of_four (quotient_down n a.lo b.lo) (quotient_down n a.lo b.hi) (quotient_down n a.hi b.lo) (quotient_down n a.hi b.hi);
-      hi = greatest_of_four (quotient_up n a.lo b.lo) (quotient_up n a.lo b.hi) (quotient_up n a.hi b.lo) (quotient_up n a.hi b.hi)
+      hi = greatest_of_four (quotient_up n a.lo b.lo) (quotient_up n a.lo b.hi) (quotient_up n a.hi b.lo) (quotient_up n a.hi b.hi);
     }
 
 -- 0 lies between the ends

@@ -1,5 +1,5 @@
 -- Ranges of intervals, for the conditions of calls.
-use Rattle.std.specs.Prelude.{ℕ, ℤ, pos, ◌≤◌, ◌≤ℤ◌}
+use Rattle.std.specs.Prelude.{ℕ, pos, ◌≤◌, ◌≤ℤ◌}
 use Rattle.interval_specs.specs.Ends.{Ends, size_of}
 
 -- a is in order and no larger than k

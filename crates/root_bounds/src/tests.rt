@@ -30,24 +30,52 @@ fn ends<S: Scale>(x: Iv<S>) -> (i128, i128) {
     (x.lo(), x.hi())
 }
 
-/// A wrong guess costs time and nothing else, so no clause speaks of it: here they are counted.
+/// A wrong guess costs time and nothing else, so no clause speaks of it: here wrong ones are counted. Of small numbers,
+/// and of whole squares and cubes, the guess may be one too small, which a second guess mends.
 #[test]
 fn guesses_are_mostly_right(rt: HostRuntime) {
     let mut drawn: u128 = 1;
-    let mut wrong_squares = 0_u32;
-    let mut wrong_cubes = 0_u32;
+    let mut wrong = Wrong::default();
     for _ in 0..8000 {
         drawn = drawn
             .wrapping_mul(0x2360_ED05_1FC6_5DA4_4385_DF64_9FCC_F645)
             .wrapping_add(0x5851_F42D_4C95_7F2D);
         let x = drawn.wrapping_shr((drawn >> 100 & 0x7F) as u32);
-        if u128::from(near_square_root(x)) != sqrt_floor(x) {
-            wrong_squares = wrong_squares.wrapping_add(1);
+        wrong.count(x >= 0x100_0000_0000, near_square_root(x), sqrt_floor(x));
+        wrong.count(x >= 0x100_0000_0000, near_cube_root(x), cbrt_floor(x));
+    }
+    assert!(rt;
+        wrong.large < 16,
+        "{} of 11000 guesses for large numbers",
+        wrong.large
+    );
+    assert!(rt;
+        wrong.small < 400,
+        "{} of 5000 guesses for small numbers",
+        wrong.small
+    );
+    assert!(rt; wrong.twice < 16, "{} second guesses", wrong.twice);
+}
+
+#[derive(Default, Clone, Copy)]
+struct Wrong {
+    large: u32,
+    small: u32,
+    twice: u32,
+}
+
+impl Wrong {
+    fn count(&mut self, large: bool, near: u64, root: u128) {
+        if u128::from(near) == root {
+            return;
         }
-        if u128::from(near_cube_root(x)) != cbrt_floor(x) {
-            wrong_cubes = wrong_cubes.wrapping_add(1);
+        if large {
+            self.large = self.large.saturating_add(1);
+        } else {
+            self.small = self.small.saturating_add(1);
+        }
+        if u128::from(near.wrapping_add(1)) != root {
+            self.twice = self.twice.saturating_add(1);
         }
     }
-    assert!(rt; wrong_squares < 200, "{wrong_squares} square roots of 8000");
-    assert!(rt; wrong_cubes < 200, "{wrong_cubes} cube roots of 8000");
 }

@@ -58,8 +58,14 @@ fn faults(shelf: &impl Shelf, name: &str) -> (u64, u64) {
     (shelf.read_faults(name), shelf.write_faults(name))
 }
 
+// The bytes under the name.
+fn bytes_of<'a>(shelf: &'a MemShelf, name: &str) -> &'a [u8] {
+    shelf.file(name).unwrap_or(b"not held")
+}
+
 #[test]
 fn writes_in_memory(rt: HostRuntime) -> Result<(), Fail> {
+    let mut buffer = [0; 4];
     let mut shelf = MemShelf::empty(rt.alloc(), 9, 1)?;
     shelf.fail_at(4)?;
     assert_eq!(rt; shelf.create("a"), Ok(()));
@@ -75,17 +81,19 @@ fn writes_in_memory(rt: HostRuntime) -> Result<(), Fail> {
             done,
             "{piece}"
         );
-        assert_eq!(rt; shelf.file("a"), Some(want.as_bytes()), "{piece}");
+        assert_eq!(rt; bytes_of(&shelf, "a"), want.as_bytes(), "{piece}");
     }
     assert_eq!(rt; faults(&shelf, "a"), (0, 2));
     assert_eq!(rt; shelf.create("b"), Err(Failed));
-    assert_eq!(rt; shelf.read_at("c", 0, &mut [0; 4]), Err(Failed));
+    let lost = shelf.read_at("c", 0, &mut buffer);
+    assert_eq!(rt; lost, Err(Failed));
     shelf.put_file("b", b"four")?;
     assert_eq!(rt; faults(&shelf, "b"), (1, 1));
     assert_eq!(rt; shelf.create("a"), Ok(()));
-    assert_eq!(rt; shelf.file("a"), Some(b"".as_slice()));
+    assert_eq!(rt; bytes_of(&shelf, "a"), b"".as_slice());
     shelf.read_most(3);
-    assert_eq!(rt; shelf.read_at("b", 0, &mut [0; 4]), Ok(3));
+    let short = shelf.read_at("b", 0, &mut buffer);
+    assert_eq!(rt; short, Ok(3));
     assert_eq!(rt; faults(&shelf, "a"), (0, 2));
     Ok(())
 }

@@ -11,3 +11,4 @@ pub mod Weighing
 pub mod Fold
 pub mod Run
 pub mod WeightFile
+pub mod Spectrum

@@ -13,6 +13,7 @@ mod name;
 mod numbers;
 mod records;
 mod run;
+mod spectrum;
 mod trim;
 mod weight_file;
 mod weight_rows;
@@ -24,6 +25,7 @@ pub use curve_file::read_curves;
 pub use fault::{TableError, TableFault, TableRule};
 pub use folding::fold;
 pub use name::is_name;
+pub use spectrum::Spectrum;
 pub use weight_file::read_weights;
 pub use weights::Weights;
 

@@ -1,4 +1,5 @@
 use super::*;
+use fix_bounds::Base;
 use std::alloc::{AllocError, Global};
 use std::test::Fail;
 
@@ -156,26 +157,38 @@ fn first_faults_of_weights(rt: HostRuntime) -> Result<(), Fail> {
     Ok(())
 }
 
+fn named(alloc: Global, text: &str, name: &str) -> Option<Curve> {
+    let book = curves(alloc, text).ok()?;
+    book.find(name)?.clone().ok()
+}
+
 #[test]
-fn curves_by_name(rt: HostRuntime) -> Result<(), Fail> {
-    let alloc = rt.alloc();
-    let plain = table(alloc, [HEADER, VALUES, VALUES, ""], 31)?;
-    let book = curves(alloc, plain.as_str()).ok().ok_or("no curves")?;
-    let curve = book.find("p001").ok_or("p001")?.clone()?;
+fn plain_curves(rt: HostRuntime) -> Result<(), Fail> {
+    let text = table(rt.alloc(), [HEADER, VALUES, VALUES, ""], 31)?;
+    let curve = named(rt.alloc(), text.as_str(), "p001").ok_or("p001")?;
     assert_eq!(rt; curve.at(0), 100);
-    assert!(rt; book.find("zz").is_none());
-    let header = "\u{feff} nm\t, p100 ,\"p50\"\r\n";
-    let dressed = table(alloc, [header, "100,50\r", "\"100\",\t50 \r\n\r", ""], 31)?;
-    let book = curves(alloc, dressed.as_str().trim_end())
-        .ok()
-        .ok_or("no dressed curves")?;
-    let curve = book.find("p50").ok_or("p50")?;
     assert_eq!(rt; curve.waves(), 31);
+    assert!(rt; named(rt.alloc(), text.as_str(), "zz").is_none());
+    Ok(())
+}
+
+#[test]
+fn dressed_curves(rt: HostRuntime) -> Result<(), Fail> {
+    let header = "\u{feff} nm\t, p100 ,\"p50\"\r\n";
+    let lines = [header, "100,50\r", "\"100\",\t50 \r\n\r", ""];
+    let text = table(rt.alloc(), lines, 31)?;
+    let curve = named(rt.alloc(), text.as_str().trim_end(), "p50").ok_or("p50")?;
     assert_eq!(rt; curve.as_slice().len(), 31);
     assert_eq!(rt; curve.at(30), 500_000);
-    assert_eq!(rt; Curve::default().at(15), 1_000_000);
-    assert!(rt; is_name(b"d1 c1") && !is_name(b""));
     Ok(())
+}
+
+#[test]
+fn full_spectrum(rt: HostRuntime) {
+    let spectrum: Spectrum<Base> = Curve::default().spectrum();
+    assert_eq!(rt; spectrum.waves(), 31);
+    assert_eq!(rt; spectrum.at(30).lo(), 1_000_000_000_000);
+    assert!(rt; is_name(b"d1 c1") && !is_name(b""));
 }
 
 #[test]
@@ -189,6 +202,5 @@ fn folded_weights(rt: HostRuntime) -> Result<(), Fail> {
     assert_eq!(rt; weights.at(1), [100_000, 100_000, 100_000]);
     assert_eq!(rt; weights.at(30), [300_000, 300_000, 300_000]);
     assert_eq!(rt; weights.white(), [3_600_000, 3_800_000, 4_050_000]);
-    assert_eq!(rt; fold(400, &[[1, -1, 0]; 31])[30], [1, -1, 0]);
     Ok(())
 }

@@ -1,0 +1,122 @@
+// Times the same operations on the same numbers as the program `speed`, in plain Rust with no proof and the formulas
+// written straight: rustc -O -C overflow-checks=off bench/interval_speed.rs -o /tmp/plain && /tmp/plain ROUNDS
+// The sums must be those that `speed` prints.
+use std::time::Instant;
+
+#[derive(Clone, Copy)]
+struct Iv<const UNIT: i128> {
+    lo: i128,
+    hi: i128,
+}
+
+fn floor(z: i128, n: i128) -> i128 {
+    z.div_euclid(n)
+}
+
+fn ceil(z: i128, n: i128) -> i128 {
+    -(-z).div_euclid(n)
+}
+
+impl<const UNIT: i128> Iv<UNIT> {
+    fn of_ratio(p: i128, q: i128) -> Self {
+        Iv { lo: floor(p * UNIT, q), hi: ceil(p * UNIT, q) }
+    }
+    fn add(self, b: Self) -> Self {
+        Iv { lo: self.lo + b.lo, hi: self.hi + b.hi }
+    }
+    fn sub(self, b: Self) -> Self {
+        Iv { lo: self.lo - b.hi, hi: self.hi - b.lo }
+    }
+    fn corners(self, b: Self) -> [i128; 4] {
+        [self.lo * b.lo, self.lo * b.hi, self.hi * b.lo, self.hi * b.hi]
+    }
+    fn mul(self, b: Self) -> Self {
+        let c = self.corners(b);
+        let least = c[0].min(c[1]).min(c[2].min(c[3]));
+        let greatest = c[0].max(c[1]).max(c[2].max(c[3]));
+        Iv { lo: floor(least, UNIT), hi: ceil(greatest, UNIT) }
+    }
+    fn div(self, b: Self) -> Self {
+        let (x, y) = (self.lo * UNIT, self.hi * UNIT);
+        let low = floor(x, b.lo).min(floor(x, b.hi)).min(floor(y, b.lo).min(floor(y, b.hi)));
+        let high = ceil(x, b.lo).max(ceil(x, b.hi)).max(ceil(y, b.lo).max(ceil(y, b.hi)));
+        Iv { lo: low, hi: high }
+    }
+    fn square(self) -> Self {
+        let size = self.abs();
+        Iv { lo: floor(size.lo * size.lo, UNIT), hi: ceil(size.hi * size.hi, UNIT) }
+    }
+    fn scale_by(self, k: i128) -> Self {
+        let (x, y) = (self.lo * k, self.hi * k);
+        Iv { lo: x.min(y), hi: x.max(y) }
+    }
+    fn ratio_up(self, num: i128, den: i128) -> Self {
+        Iv { lo: floor(self.lo * num, den), hi: ceil(self.hi * num, den) }
+    }
+    fn abs(self) -> Self {
+        let (x, y) = (self.lo.abs(), self.hi.abs());
+        Iv { lo: if self.lo <= 0 && 0 <= self.hi { 0 } else { x.min(y) }, hi: x.max(y) }
+    }
+    fn cut_low(self, k: i128) -> Self {
+        Iv { lo: self.lo.max(k * UNIT), hi: self.hi.max(k * UNIT) }
+    }
+    fn cut_high(self, k: i128) -> Self {
+        Iv { lo: self.lo.min(k * UNIT), hi: self.hi.min(k * UNIT) }
+    }
+    fn hull(self, b: Self) -> Self {
+        Iv { lo: self.lo.min(b.lo), hi: self.hi.max(b.hi) }
+    }
+}
+
+fn next(state: u64) -> u64 {
+    state.wrapping_mul(6_364_136_223_846_793_005).wrapping_add(1_442_695_040_888_963_407)
+}
+
+fn interval<const UNIT: i128>(state: u64) -> Iv<UNIT> {
+    let low = 1 + (state >> 24) % UNIT as u64;
+    Iv { lo: low as i128, hi: (low + state % 8) as i128 }
+}
+
+fn time<const UNIT: i128>(scale: &str, rounds: u32) {
+    let mut pairs = Vec::new();
+    let mut state = 1;
+    for _ in 0..1000 {
+        let first = next(state);
+        state = next(first);
+        pairs.push((interval::<UNIT>(first), interval::<UNIT>(state)));
+    }
+    macro_rules! row {
+        ($name:expr, $a:ident, $b:ident, $call:expr) => {
+            let start = Instant::now();
+            let mut sum = 0i128;
+            for _ in 0..rounds {
+                for &($a, $b) in std::hint::black_box(&pairs) {
+                    let _ = $b;
+                    let result = $call;
+                    sum = sum.wrapping_add(result.lo).wrapping_add(result.hi);
+                }
+            }
+            let took = start.elapsed().as_nanos() / u128::from(rounds).max(1);
+            println!("{scale} {} {took} (sum {sum})", $name);
+        };
+    }
+    row!("Ends", a, b, a);
+    row!("OfRatio", a, b, Iv::<UNIT>::of_ratio(a.lo, b.lo));
+    row!("Add", a, b, a.add(b));
+    row!("Sub", a, b, a.sub(b));
+    row!("Mul", a, b, a.mul(b));
+    row!("Div", a, b, a.div(b));
+    row!("Square", a, b, a.square());
+    row!("ScaleBy", a, b, a.scale_by(-116));
+    row!("RatioUp", a, b, a.ratio_up(1_234_567, 7_654_321));
+    row!("Abs", a, b, a.abs());
+    row!("CutLow", a, b, a.cut_low(0));
+    row!("CutHigh", a, b, a.cut_high(0));
+    row!("Hull", a, b, a.hull(b));
+}
+
+fn main() {
+    let rounds = std::env::args().nth(1).and_then(|word| word.parse().ok()).unwrap_or(1000);
+    time::<1_000_000_000_000>("base", rounds);
+    time::<100_000_000>("quick", rounds);
+}

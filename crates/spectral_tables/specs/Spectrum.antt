@@ -1,0 +1,19 @@
+-- A spectrum: the reflectance at each place, as an interval at a scale n.
+use Rattle.std.specs.Prelude.{ℕ, pos, ◌^◌, List, All, length, map}
+use Rattle.interval_specs.specs.Ends.{Ends}
+use Rattle.interval_specs.specs.Operations.{ratio_at}
+use Rattle.interval_specs.specs.Ranges.{UpTo}
+use Rattle.spectral_tables.specs.Curve.{IsPlaceCount}
+
+-- what a spectrum keeps: no place is below 0 or above 1
+pub record IsSpectrum (n : ℕ) (places : List Ends) : Type 0 where
+  pub count : IsPlaceCount (length places)
+  pub range : All (UpTo n) places
+
+-- the spectrum of a measured curve: each reflectance is its number of millionths over 10^6
+unfoldable pub spectrum_at : ℕ → List ℕ → List Ends
+spectrum_at n curve = map (λ millionths. ratio_at n (pos millionths) (10 ^ 6)) curve
+
+-- the interval whose ends are stored
+abbrev pub ends_of : ℕ × ℕ → Ends
+ends_of ends = record { lo = pos ends.0; hi = pos ends.1 }

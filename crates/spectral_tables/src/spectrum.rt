@@ -1,0 +1,110 @@
+//! The reflectance of a cloth at each place, as intervals.
+
+ghost use Rattle.std.specs.Prelude.{◌≡◌, ◌<◌, ◌≤◌, ◌^◌, Some, pos, length, slice_get};
+ghost use Rattle.interval_specs.specs.Operations.{ratio_at};
+ghost use Rattle.interval_specs.specs.Ranges.{UpTo};
+ghost use Rattle.spectral_tables.specs.Spectrum.{IsSpectrum, ends_of, spectrum_at};
+
+use crate::curve::{Curve, PLACES};
+use arrayvec::ArrayVec;
+use fix_bounds::{Iv, Scale};
+use std::marker::{Model, PhantomData};
+
+/// A reflectance for each place by 10 nm from 400 to 700 nm, as an interval from 0 to 1 at the scale `S`.
+/// A `wave` counts the places from 0.
+#[derive(Drop)]
+pub struct Spectrum<S: Scale> {
+    places: ArrayVec<(u64, u64), PLACES>,
+    scale: PhantomData<S>,
+}
+
+impl<S: Scale> Model for Spectrum<S> {
+    ghost use Rattle.std.specs.Prelude.{List, map};
+    ghost use Rattle.interval_specs.specs.Ends.{Ends};
+    ghost use Rattle.spectral_tables.specs.Spectrum.{IsSpectrum, ends_of};
+
+    ghost Value = { List Ends };
+
+    ghost view = { λ s. map ends_of s.places.items };
+
+    ghost invariant = { λ s. IsSpectrum S.unit (map ends_of s.places.items) };
+}
+
+/// The ends of an interval from 0 to 1, in parts of the scale.
+fn stored_ends<S: Scale>(place: Iv<S>) -> (u64, u64)
+    requires { UpTo S.unit place }
+    ensures { ends_of result ≡ place }
+{
+    (place.lo() as u64, place.hi() as u64)
+}
+
+/// The interval of stored ends.
+fn opened<S: Scale>(ends: (u64, u64)) -> Iv<S>
+    requires { UpTo S.unit (ends_of ends) }
+    ensures { result ≡ ends_of ends }
+{
+    Iv::of_ends(i128::from(ends.0), i128::from(ends.1))
+}
+
+impl<S: Scale> Spectrum<S> {
+    /// The spectrum of these intervals.
+    pub fn of(places: &[Iv<S>]) -> Spectrum<S>
+        requires { IsSpectrum S.unit places.now }
+        ensures is { result ≡ places.now }
+        ensures held { IsSpectrum S.unit result }
+    {
+        let mut stored = ArrayVec::new();
+        for place in places {
+            stored.push(stored_ends(*place));
+        }
+        Spectrum {
+            places: stored,
+            scale: PhantomData,
+        }
+    }
+
+    /// The reflectance at a place.
+    pub fn at(&self, wave: usize) -> Iv<S>
+        requires { wave < length self.now }
+        ensures is { slice_get self.now wave ≡ Some result }
+        ensures range { UpTo S.unit result }
+        ensures held { IsSpectrum S.unit self.now }
+    {
+        opened(self.places.as_slice()[wave])
+    }
+
+    /// How many places it has.
+    pub fn waves(&self) -> usize
+        ensures is { result ≡ length self.now }
+        ensures held { IsSpectrum S.unit self.now }
+    {
+        self.places.len()
+    }
+}
+
+/// The reflectance of so many millionths.
+fn reflectance<S: Scale>(millionths: u32) -> Iv<S>
+    requires { millionths ≤ 1000000 }
+    ensures is { result ≡ ratio_at S.unit (pos millionths) (10 ^ 6) }
+    ensures range { UpTo S.unit result }
+{
+    Iv::of_ratio(i128::from(millionths), 1_000_000)
+}
+
+impl Curve {
+    /// The spectrum of the curve: each reflectance is its number of millionths over 10^6.
+    #[tactic(auto, unfolding(crate::specs::Spectrum::spectrum_at))]
+    pub fn spectrum<S: Scale>(&self) -> Spectrum<S>
+        ensures is { result ≡ spectrum_at S.unit self.now }
+        ensures held { IsSpectrum S.unit result }
+    {
+        let mut stored = ArrayVec::new();
+        for millionths in self.as_slice() {
+            stored.push(stored_ends(reflectance::<S>(*millionths)));
+        }
+        Spectrum {
+            places: stored,
+            scale: PhantomData,
+        }
+    }
+}

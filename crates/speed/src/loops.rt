@@ -1,0 +1,124 @@
+//! A loop for each operation. The sum of the results' ends is printed, so that no call can be left out.
+use crate::pairs::Pair;
+use fix_bounds::{Iv, Scale};
+
+/// The operations that are timed.
+#[derive(Clone, Copy, Debug)]
+pub enum Operation {
+    Ends,
+    OfRatio,
+    Add,
+    Sub,
+    Mul,
+    Div,
+    Square,
+    ScaleBy,
+    RatioUp,
+    Abs,
+    CutLow,
+    CutHigh,
+    Hull,
+}
+
+/// All of them, in the order of the report.
+pub const OPERATIONS: [Operation; 13] = [
+    Operation::Ends,
+    Operation::OfRatio,
+    Operation::Add,
+    Operation::Sub,
+    Operation::Mul,
+    Operation::Div,
+    Operation::Square,
+    Operation::ScaleBy,
+    Operation::RatioUp,
+    Operation::Abs,
+    Operation::CutLow,
+    Operation::CutHigh,
+    Operation::Hull,
+];
+
+macro_rules! rounds {
+    ($pairs:ident, $rounds:ident, $first:ident, $second:ident, $call:expr) => {{
+        let mut sum = 0i128;
+        for _ in 0..$rounds {
+            for pair in $pairs {
+                let ($first, $second) = (pair.first, pair.second);
+                let _ = $second;
+                let result = $call;
+                sum = sum.wrapping_add(result.lo()).wrapping_add(result.hi());
+            }
+        }
+        sum
+    }};
+}
+
+fn ends<S: Scale>(pairs: &[Pair<S>], rounds: u32) -> i128 {
+    rounds!(pairs, rounds, a, b, a)
+}
+
+fn of_ratio<S: Scale>(pairs: &[Pair<S>], rounds: u32) -> i128 {
+    rounds!(pairs, rounds, a, b, Iv::<S>::of_ratio(a.lo(), b.lo()))
+}
+
+fn add<S: Scale>(pairs: &[Pair<S>], rounds: u32) -> i128 {
+    rounds!(pairs, rounds, a, b, a.add(b))
+}
+
+fn sub<S: Scale>(pairs: &[Pair<S>], rounds: u32) -> i128 {
+    rounds!(pairs, rounds, a, b, a.sub(b))
+}
+
+fn mul<S: Scale>(pairs: &[Pair<S>], rounds: u32) -> i128 {
+    rounds!(pairs, rounds, a, b, a.mul(b))
+}
+
+fn div<S: Scale>(pairs: &[Pair<S>], rounds: u32) -> i128 {
+    rounds!(pairs, rounds, a, b, a.div(b))
+}
+
+fn square<S: Scale>(pairs: &[Pair<S>], rounds: u32) -> i128 {
+    rounds!(pairs, rounds, a, b, a.square())
+}
+
+fn scale_by<S: Scale>(pairs: &[Pair<S>], rounds: u32) -> i128 {
+    rounds!(pairs, rounds, a, b, a.scale_by(-116))
+}
+
+fn ratio_up<S: Scale>(pairs: &[Pair<S>], rounds: u32) -> i128 {
+    rounds!(pairs, rounds, a, b, a.ratio_up(1_234_567, 7_654_321))
+}
+
+fn abs<S: Scale>(pairs: &[Pair<S>], rounds: u32) -> i128 {
+    rounds!(pairs, rounds, a, b, a.abs())
+}
+
+fn cut_low<S: Scale>(pairs: &[Pair<S>], rounds: u32) -> i128 {
+    rounds!(pairs, rounds, a, b, a.cut_low(0))
+}
+
+fn cut_high<S: Scale>(pairs: &[Pair<S>], rounds: u32) -> i128 {
+    rounds!(pairs, rounds, a, b, a.cut_high(0))
+}
+
+fn hull<S: Scale>(pairs: &[Pair<S>], rounds: u32) -> i128 {
+    rounds!(pairs, rounds, a, b, a.hull(b))
+}
+
+/// Calls one operation on each pair, `rounds` times over, and sums the ends of the results.
+pub fn run<S: Scale>(operation: Operation, pairs: &[Pair<S>], rounds: u32) -> i128 {
+    match operation {
+        Operation::Ends => ends(pairs, rounds),
+        Operation::OfRatio => of_ratio(pairs, rounds),
+        Operation::Add => add(pairs, rounds),
+        Operation::Sub => sub(pairs, rounds),
+        Operation::Mul => mul(pairs, rounds),
+        Operation::Div => div(pairs, rounds),
+        Operation::Square => square(pairs, rounds),
+        Operation::ScaleBy => scale_by(pairs, rounds),
+        Operation::RatioUp => ratio_up(pairs, rounds),
+        Operation::Abs => abs(pairs, rounds),
+        Operation::CutLow => cut_low(pairs, rounds),
+        Operation::CutHigh => cut_high(pairs, rounds),
+        Operation::Hull => hull(pairs, rounds),
+    }
+}

@@ -1,0 +1,46 @@
+//! Times the operations on intervals at both scales: `speed ROUNDS` prints, for each operation, the nanoseconds that a
+//! thousand calls take at the base scale and at the quick one.
+#![tactic(auto)]
+
+mod loops;
+mod pairs;
+
+use fix_bounds::{Base, Quick, Scale};
+use std::rt::{Clock, Env};
+use std::time::Instant;
+use std::{env, io};
+
+/// The number of rounds that the first word gives, if there is one.
+fn rounds_of<R: Env + AllocGlobal>(rt: &R) -> io::Result<Option<u32>> {
+    let mut words = env::args(rt)?.skip(1);
+    match words.next() {
+        Some(word) => Ok(word.as_str().parse::<u32>().ok()),
+        None => Ok(None),
+    }
+}
+
+/// Times all operations at one scale.
+fn times<S: Scale, R: Clock + Print + AllocGlobal>(
+    rt: &R,
+    scale: &str,
+    rounds: u32,
+) -> io::Result<()> {
+    let pairs = pairs::drawn::<S>(rt.alloc())?;
+    for operation in loops::OPERATIONS {
+        let start = Instant::now(rt)?;
+        let sum = loops::run(operation, pairs.as_slice(), rounds);
+        let took = start.elapsed(rt)?.as_nanos() / u128::from(rounds).max(1);
+        println!(rt; "{scale} {operation:?} {took} (sum {sum})")?;
+    }
+    Ok(())
+}
+
+fn main(rt: HostRuntime) -> io::Result<()> {
+    match rounds_of(&rt)? {
+        Some(rounds) => {
+            times::<Base, HostRuntime>(&rt, "base", rounds)?;
+            times::<Quick, HostRuntime>(&rt, "quick", rounds)
+        }
+        None => println!(rt; "usage: speed ROUNDS, for the nanoseconds of a thousand calls"),
+    }
+}

@@ -1,0 +1,51 @@
+ghost use Rattle.std.specs.Prelude.{◌≡◌, ℕ, ℤ, pos, ◌^◌, ◌≤◌, ◌<ℤ◌};
+ghost use Rattle.interval_specs.specs.Ranges.{UpTo};
+
+use fix_bounds::{Iv, Scale};
+use std::alloc::{AllocError, Global};
+
+/// How many pairs are drawn.
+const COUNT: u32 = 1000;
+
+/// Two intervals above 0 and of a few units at most, for the two sides of an operation.
+#[derive(Drop)]
+pub struct Pair<S: Scale> {
+    pub first: Iv<S>,
+    pub second: Iv<S>,
+    ghost first_range: { UpTo (2 ^ 41) first },
+    ghost second_range: { UpTo (2 ^ 41) second },
+    ghost divisor: { pos 0 <ℤ second.lo },
+}
+
+/// An interval from the bits of `state`: its lower end between 0 and 1, and up to seven parts wide.
+fn interval<S: Scale>(state: u64) -> Iv<S>
+    ensures range { UpTo (2 ^ 41) result }
+    ensures positive { pos 0 <ℤ result.lo }
+{
+    let unit = S::UNIT as u64;
+    let low = 1 + (state / 0x100_0000) % unit;
+    let high = low + state % 8;
+    Iv::of_ends(i128::from(low), i128::from(high))
+}
+
+/// The next state of a linear congruential generator.
+fn next(state: u64) -> u64 {
+    state
+        .wrapping_mul(6_364_136_223_846_793_005)
+        .wrapping_add(1_442_695_040_888_963_407)
+}
+
+/// The pairs that all operations are timed on.
+pub fn drawn<S: Scale>(alloc: Global) -> Result<Vec<Pair<S>>, AllocError> {
+    let mut pairs = Vec::new(alloc);
+    let mut state = 1;
+    for _ in 0..COUNT {
+        let first = next(state);
+        state = next(first);
+        pairs.push(Pair {
+            first: interval(first),
+            second: interval(state),
+        })?;
+    }
+    Ok(pairs)
+}
