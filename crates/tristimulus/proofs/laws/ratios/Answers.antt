@@ -1,0 +1,5 @@
+use Rattle.tristimulus.proofs.Enclosing.{ratios_enclose}
+use Rattle.tristimulus.proofs.laws.ratios.Goals as goal
+
+pub returns : goal.returns
+returns c = ratios_enclose
