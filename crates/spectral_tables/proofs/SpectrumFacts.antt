@@ -1,11 +1,10 @@
 -- The places of a spectrum, as they are stored.
-use Rattle.std.proofs.Common.{◌≡◌, ◌*◌, ◌≤◌, ◌<◌, ◌^◌, ℕ, pos, List, All, length, get_or, map, Some, refl, sym, ap, subst, ◌∙◌, arith}
+use Rattle.std.proofs.Common.{◌≡◌, ◌≤◌, ◌<◌, ◌^◌, ℕ, pos, List, length, get_or, map, Some, ap, subst, ◌∙◌, arith}
 use Rattle.std.specs.Prelude.{slice_get, option_map}
 use Rattle.std.proofs.lemmas.Int.{ints}
 use Rattle.std.proofs.lemmas.List.{get_or-map, length-map}
 use Rattle.std.proofs.lemmas.Option.{slice_get-get_or, slice_get-map}
 use Rattle.std.proofs.Math.Nat.{mul-le-mul_left}
-use Rattle.interval_specs.specs.Ends.{Ends}
 use Rattle.interval_specs.specs.Operations.{ratio_at}
 use Rattle.interval_specs.specs.Ranges.{UpTo}
 use Rattle.interval_specs.proofs.Ranges.{ratio_up_to}

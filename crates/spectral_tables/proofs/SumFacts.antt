@@ -1,10 +1,10 @@
 -- Sums of columns, and the sums of their sizes.
-use Rattle.std.proofs.Common.{◌≡◌, ◌+◌, ◌≤◌, ◌<◌, ℕ, zero, suc, ℤ, pos, negsuc, ◌+ℤ◌, neg_ℤ, ◌≤ℤ◌, List, [], ◌∷◌, ◌++◌, length, get_or, take, drop, refl, sym, ap, ◌∙◌, add-one, arith}
-use Rattle.std.specs.Prelude.{unsigned_abs, slice_index_or, sum_by}
+use Rattle.std.proofs.Common.{◌≡◌, ◌+◌, ◌≤◌, ◌<◌, ℕ, ℤ, pos, negsuc, ◌+ℤ◌, neg_ℤ, ◌≤ℤ◌, List, [], length, get_or, drop, ap, add-one, arith}
+use Rattle.std.specs.Prelude.{unsigned_abs}
 use Rattle.std.proofs.lemmas.Int.{ints}
 use Rattle.std.proofs.Math.Seq.{drop-cons}
 use Rattle.std.proofs.lemmas.List.{drop_all}
-use Rattle.spectral_tables.specs.Weighing.{Triple, at_column, column_sum, size_sum}
+use Rattle.spectral_tables.specs.Weighing.{Triple, at_column, column_sum}
 
 -- a number whose size is bounded
 pub record Within (z : ℤ) (n : ℕ) : Type 0 where

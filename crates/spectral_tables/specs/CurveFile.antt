@@ -1,25 +1,15 @@
 -- Curve files: a header of names, and one record a wavelength with a percentage under each name.
-use Rattle.std.specs.Prelude.{ℕ, ◌+◌, ◌*◌, Bool, false, not, ◌&&◌, ◌==◌, nat_lt, nat_le, List, [], ◌∷◌, ◌++◌, length, drop, map, codes, slice_index, Result, Ok, Err}
+use Rattle.std.specs.Prelude.{ℕ, ◌+◌, ◌*◌, Bool, not, ◌&&◌, ◌==◌, nat_lt, nat_le, List, [], ◌∷◌, ◌++◌, length, drop, map, codes, slice_index, Result, Ok, Err}
 use Rattle.std.specs.List.{list_any}
 use Rattle.std.specs.Str.{bytes_eq}
 use Rattle.dec_text.specs.Decimal.{decimal_of}
 use Rattle.spectral_tables.specs.declared.fault.TableRule.TheVariants.{NoHeader, BadWavelength, WrongCount, BadNumber, OutOfRange, DoubleName}
 use Rattle.spectral_tables.specs.declared.fault.TableFault.{TableFault}
 use Rattle.spectral_tables.specs.Faults.{◌>>=◌, ◌>>◌, fault, ensure, or_fault, each}
-use Rattle.spectral_tables.specs.Records.{Table, records_of, trimmed_fields}
+use Rattle.spectral_tables.specs.Records.{Table, records_of, trimmed_fields, begins_with, first_field}
 use Rattle.spectral_tables.specs.Name.{is_name}
 use Rattle.spectral_tables.specs.Numbers.{is_wavelength, natural_in, number_read}
 use Rattle.spectral_tables.specs.CurveBook.{Book}
-
--- Is the first field this text?
-abbrev pub begins_with : List ℕ → List (List ℕ) → Bool
-begins_with text [] = false
-begins_with text (first ∷ _) = bytes_eq text first
-
--- the first field, or no bytes
-abbrev pub first_field : List (List ℕ) → List ℕ
-first_field [] = []
-first_field (first ∷ _) = first
 
 -- `nm` and 1 to 64 further fields
 abbrev pub is_curve_header : List (List ℕ) → Bool

@@ -1,5 +1,6 @@
 -- The records of a table file.
-use Rattle.std.specs.Prelude.{ℕ, List, map}
+use Rattle.std.specs.Prelude.{ℕ, Bool, false, List, [], ◌∷◌, map}
+use Rattle.std.specs.Str.{bytes_eq}
 use Rattle.csv.specs.Reading.{records, default_config, strip_bom}
 use Rattle.spectral_tables.specs.Trim.{trimmed}
 
@@ -14,3 +15,13 @@ records_of bytes = records default_config (strip_bom (strip_bom bytes))
 -- the fields of a record without the blanks around each
 abbrev pub trimmed_fields : List (List ℕ) → List (List ℕ)
 trimmed_fields fields = map trimmed fields
+
+-- Is the first field this text?
+abbrev pub begins_with : List ℕ → List (List ℕ) → Bool
+begins_with text [] = false
+begins_with text (first ∷ _) = bytes_eq text first
+
+-- the first field, or no bytes
+abbrev pub first_field : List (List ℕ) → List ℕ
+first_field [] = []
+first_field (first ∷ _) = first

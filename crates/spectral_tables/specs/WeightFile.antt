@@ -1,12 +1,11 @@
 -- Weights files: a header, one record a wavelength with three weights, and the white record.
-use Rattle.std.specs.Prelude.{◌≡◌, ◌+◌, ◌*◌, ◌%◌, ◌<◌, ◌≤◌, ◌^◌, ℕ, ℤ, pos, ◌<ℤ◌, Bool, true, false, not, ◌&&◌, ◌||◌, ◌==◌, nat_le, if◌then◌else◌, List, [], ◌∷◌, ◌++◌, All, length, drop, codes, int_lt, unsigned_abs, Result, Ok, Err}
+use Rattle.std.specs.Prelude.{◌+◌, ◌*◌, ◌^◌, ℕ, ℤ, pos, ◌<ℤ◌, Bool, true, false, not, ◌&&◌, ◌||◌, ◌==◌, nat_le, if◌then◌else◌, List, [], ◌∷◌, All, length, drop, codes, int_lt, unsigned_abs, Result, Ok, Err}
 use Rattle.dec_text.specs.Decimal.{decimal_of}
 use Rattle.spectral_tables.specs.declared.fault.TableRule.TheVariants.{NoHeader, BadWavelength, WrongCount, BadNumber, OutOfRange, NoWhite, WhiteNotPositive, Unbalanced}
 use Rattle.spectral_tables.specs.declared.fault.TableFault.{TableFault}
 use Rattle.spectral_tables.specs.Faults.{◌>>=◌, ◌>>◌, fault, ensure, or_fault, each}
-use Rattle.spectral_tables.specs.Records.{Table, records_of, trimmed_fields}
+use Rattle.spectral_tables.specs.Records.{Table, records_of, trimmed_fields, begins_with, first_field}
 use Rattle.spectral_tables.specs.Numbers.{number_read}
-use Rattle.spectral_tables.specs.CurveFile.{begins_with, first_field}
 use Rattle.spectral_tables.specs.Weighing.{Triple, Weighing, IsTriple, at_column, size_sum}
 use Rattle.spectral_tables.specs.Fold.{fold_of}
 use Rattle.spectral_tables.specs.Run.{Rows, no_rows, row_behind, reaches_end, due_wavelength, rows_with}
@@ -54,11 +53,11 @@ closed_of rows white records =
 -- the records behind the rows, up to the white one
 unfoldable pub weights_from : Rows → Table → Result Weighing TableFault
 weights_from rows [] = Err (fault (row_behind rows) 1 NoWhite)
-weights_from rows (record_here ∷ records) =
-    ensure (row_behind rows) (length record_here) WrongCount (length record_here == 4)
-    >> (if begins_with (codes "white") (trimmed_fields record_here)
-    then white_of rows (trimmed_fields record_here) >>= (λ white. closed_of rows white records)
-    else with_row rows (trimmed_fields record_here) >>= (λ more. weights_from more records))
+weights_from rows (line ∷ records) =
+    ensure (row_behind rows) (length line) WrongCount (length line == 4)
+    >> (if begins_with (codes "white") (trimmed_fields line)
+    then white_of rows (trimmed_fields line) >>= (λ white. closed_of rows white records)
+    else with_row rows (trimmed_fields line) >>= (λ more. weights_from more records))
 
 -- the weights of a table, or its first fault: behind `nm`, the header has three fields with any text
 unfoldable pub weights_of : Table → Result Weighing TableFault

@@ -7,16 +7,14 @@ ghost use Rattle.spectral_tables.specs.Faults.{each, Gives, unless_fault};
 ghost use Rattle.spectral_tables.specs.CurveFile.{is_curve_header, next_name, next_different, names_of};
 
 use crate::fault::{Place, TableError, TableFault, TableRule};
+use crate::fields::begins_with;
 use crate::name::is_name;
 use std::alloc::Global;
 
 fn is_curve_header(fields: &[&[u8]]) -> bool
     ensures { result ≡ is_curve_header (map (λ f. f.now) fields.now) }
 {
-    match fields {
-        [first, ..] => *first == b"nm".as_slice() && 2 <= fields.len() && fields.len() <= 65,
-        [] => false,
-    }
+    begins_with(fields, b"nm") && 2 <= fields.len() && fields.len() <= 65
 }
 
 /// The place of the field behind so many names.

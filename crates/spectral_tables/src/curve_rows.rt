@@ -6,10 +6,11 @@ ghost use Rattle.spectral_tables.specs.Curve.{IsReflectance};
 ghost use Rattle.spectral_tables.specs.Records.{trimmed_fields};
 ghost use Rattle.spectral_tables.specs.Rows.{rows_view, IsRow};
 ghost use Rattle.spectral_tables.specs.Faults.{each, Gives};
-ghost use Rattle.spectral_tables.specs.CurveFile.{first_field, reflectance_of, next_reflectance, row_of, rows_of};
+ghost use Rattle.spectral_tables.specs.CurveFile.{reflectance_of, next_reflectance, row_of, rows_of};
 
 use crate::curve::PLACES;
 use crate::fault::{Place, TableError, TableFault, TableRule};
+use crate::fields::first_field;
 use crate::numbers::{is_wavelength, natural_in, number};
 use crate::records::fields_of;
 use csv::ByteRecord;
@@ -37,15 +38,6 @@ fn values(alloc: Global, row: u32, fields: &[&[u8]]) -> Result<Vec<u32>, TableEr
         values.push(reflectance(Place { row, column }, *field)?)?;
     }
     Ok(values)
-}
-
-pub(crate) fn first_field<'a>(fields: &[&'a [u8]]) -> &'a [u8]
-    ensures { result.now ≡ first_field (map (λ f. f.now) fields.now) }
-{
-    match fields {
-        [first, ..] => *first,
-        [] => &[],
-    }
 }
 
 /// The record behind so many rows.

@@ -8,6 +8,7 @@ mod curve_file;
 mod curve_header;
 mod curve_rows;
 mod fault;
+mod fields;
 mod folding;
 mod name;
 mod numbers;

@@ -8,10 +8,11 @@ ghost use Rattle.spectral_tables.specs.Run.{no_rows, reaches_end};
 ghost use Rattle.spectral_tables.specs.WeightFile.{IsWhite, ensure_balance, closed_of, weights_from, weights_of, weight_table_of};
 
 use crate::fault::{Place, TableError, TableFault, TableRule};
+use crate::fields::begins_with;
 use crate::folding::fold;
 use crate::records::{fields_of, records_of};
 use crate::run::Run;
-use crate::weight_rows::{begins_with, white_of, with_row};
+use crate::weight_rows::{white_of, with_row};
 use crate::weights::Weights;
 use csv::ByteRecord;
 use std::alloc::Global;

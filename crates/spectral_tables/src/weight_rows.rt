@@ -2,25 +2,14 @@
 
 ghost use Rattle.std.specs.Prelude.{◌≡◌, ◌+◌, ◌*◌, ◌≤◌, ◌<◌, ◌^◌, [], true, ℤ, pos, ◌<ℤ◌, length, map, drop, All, IfOk, unsigned_abs, IsTrue};
 ghost use Rattle.spectral_tables.specs.Faults.{each, Gives};
-ghost use Rattle.spectral_tables.specs.CurveFile.{begins_with};
 ghost use Rattle.spectral_tables.specs.Weighing.{IsTriple, at_column};
 ghost use Rattle.spectral_tables.specs.Run.{reaches_end};
 ghost use Rattle.spectral_tables.specs.WeightFile.{weight_of, next_weight, with_row, white_of, IsWhite};
 
-use crate::curve_rows::first_field;
 use crate::fault::{Place, TableError, TableFault, TableRule};
+use crate::fields::first_field;
 use crate::numbers::number;
 use crate::run::Run;
-
-/// Whether the first field is this text.
-pub(crate) fn begins_with(fields: &[&[u8]], text: &[u8]) -> bool
-    ensures { result ≡ begins_with text.now (map (λ f. f.now) fields.now) }
-{
-    match fields {
-        [first, ..] => text == *first,
-        [] => false,
-    }
-}
 
 /// The weight of a field, or the white value, in 0.00001.
 #[tactic(auto, unfolding(crate::specs::WeightFile::weight_of))]

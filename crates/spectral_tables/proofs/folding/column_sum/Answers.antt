@@ -1,6 +1,6 @@
-use Rattle.std.proofs.Common.{◌≡◌, ◌+ℤ◌, pos, [], get_or, drop, arith, ap, ◌∙◌, sym}
+use Rattle.std.proofs.Common.{pos, [], get_or, arith}
 use Rattle.std.proofs.lemmas.Int.{ints}
-use Rattle.spectral_tables.specs.Weighing.{at_column, column_sum}
+use Rattle.spectral_tables.specs.Weighing.{at_column}
 use Rattle.spectral_tables.proofs.SumFacts.{within-size, column_sum-drop, column_sum-end}
 use Rattle.spectral_tables.proofs.folding.column_sum.Goals as goal
 

@@ -1,4 +1,4 @@
-use Rattle.std.proofs.Common.{◌≡◌, ◌≤◌, ◌*◌, ◌^◌, pos, ◌+ℤ◌, ◌≤ℤ◌, neg_ℤ, drop}
+use Rattle.std.proofs.Common.{◌≡◌, ◌*◌, ◌^◌, pos, ◌+ℤ◌, ◌≤ℤ◌, neg_ℤ, drop}
 use Rattle.spectral_tables.specs.Weighing.{column_sum}
 use Rattle.spectral_tables.proofs.folding.column_sum.Given as goal
 

@@ -1,4 +1,4 @@
-use Rattle.std.proofs.Common.{◌≡◌, ◌+◌, ◌-◌, ◌/◌, take, drop, ap, sym, refl, ◌∙◌, arith}
+use Rattle.std.proofs.Common.{◌≡◌, ◌+◌, take, drop, ap, refl, ◌∙◌, arith}
 use Rattle.std.proofs.lemmas.List.{take_all, drop-drop}
 use Rattle.spectral_tables.specs.Fold.{fold_of, rows_below}
 use Rattle.spectral_tables.proofs.folding.fold.Goals as goal
