@@ -1,5 +1,5 @@
 -- What the calls of the constants and of the two forms of T need and give, over plain intervals.
-use Rattle.std.proofs.Common.{ℕ, ℤ, pos, ◌≡◌, ◌∙◌, ◌+◌, ◌*◌, ◌^◌, ◌≤◌, ◌<◌, ◌≤ℤ◌, unsigned_abs, arith, ap, subst, sym, lit<, lit≤, mul-le-mul, mul-le-mul_left, mul-le-mul_right}
+use Rattle.std.proofs.Common.{ℕ, ℤ, pos, ◌≡◌, ◌∙◌, ◌+◌, ◌*◌, ◌^◌, ◌≤◌, ◌<◌, unsigned_abs, arith, ap, subst, sym, lit<, lit≤, mul-le-mul, mul-le-mul_left, mul-le-mul_right}
 use Rattle.interval_specs.specs.Ends.{Ends, size_of}
 use Rattle.interval_specs.specs.Ranges.{Sized, UpTo}
 use Rattle.interval_specs.specs.Operations.{fraction_of, product_at, ratio_at}

@@ -1,7 +1,6 @@
 -- What the calls of the difference need and give, over plain intervals.
-use Rattle.std.proofs.Common.{ℕ, ℤ, pos, ◌≡◌, ◌+◌, ◌*◌, ◌^◌, ◌≤◌, ◌<◌, ◌≤ℤ◌, ◌<ℤ◌, unsigned_abs, arith, subst, sym, lit<, lit≤, mul-le-mul, mul-le-mul_left, mul-le-mul_right, le_trans}
+use Rattle.std.proofs.Common.{ℕ, pos, ◌≡◌, ◌+◌, ◌*◌, ◌^◌, ◌≤◌, ◌<◌, ◌<ℤ◌, unsigned_abs, arith, subst, sym, lit<, lit≤, mul-le-mul, mul-le-mul_right}
 use Rattle.std.proofs.Math.Nat.{le_of_mul-le-mul_left}
-use Rattle.std.proofs.lemmas.Int.{ints}
 use Rattle.interval_specs.specs.Ends.{Ends, IsHeld, size_of}
 use Rattle.interval_specs.specs.Ranges.{Sized, UpTo}
 use Rattle.interval_specs.specs.Operations.{cut_low_at, fraction_of, product_at, ratio_at, square_at}

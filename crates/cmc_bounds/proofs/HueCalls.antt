@@ -1,12 +1,12 @@
 -- What the calls of the cosine and of the weight of the hue need and give, over plain intervals.
-use Rattle.std.proofs.Common.{ℕ, zero, suc, ℤ, pos, negsuc, ◌≡◌, ◌∙◌, ◌*◌, ◌^◌, ◌≤◌, ◌<◌, ◌≤ℤ◌, ◌<ℤ◌, Bool, true, false, cond, ◌==◌, refl, unsigned_abs, arith, ap, subst, sym, mul-le-mul, mul-le-mul_left, mul-le-mul_right}
+use Rattle.std.proofs.Common.{ℕ, zero, suc, ℤ, pos, negsuc, ◌≡◌, ◌∙◌, ◌*◌, ◌^◌, ◌≤◌, ◌<◌, ◌≤ℤ◌, ◌<ℤ◌, true, false, cond, ◌==◌, refl, unsigned_abs, arith, ap, subst, sym, mul-le-mul, mul-le-mul_right}
 use Rattle.std.proofs.lemmas.Int.{ints}
 use Rattle.std.proofs.lemmas.Bool.Decides.{nat_tests}
 use Rattle.std.specs.Int.{w128}
 use mir.Val.{to_z, of_z}
 use lib.Signed.{mag}
 use Rattle.interval_specs.specs.Ends.{Ends, size_of, whole}
-use Rattle.interval_specs.specs.Ranges.{Sized, UpTo}
+use Rattle.interval_specs.specs.Ranges.{Sized}
 use Rattle.interval_specs.specs.Operations.{absolute_of, cut_high_at, difference_of, product_at, quotient_at}
 use Rattle.interval_specs.proofs.Ranges.{absolute_up_to, carry_up_to}
 use Rattle.fix_bounds.proofs.Passed.{passed_is}

@@ -1,6 +1,6 @@
 -- Quotients of natural numbers as the ends of an interval.
 use Rattle.std.proofs.Common.{ℕ, ℤ, pos, ◌≡◌, ◌+◌, ◌*◌, ◌/◌, ◌^◌, ◌≤◌, ◌<◌, FitsSigned, refl, ap, subst, sym, ◌∙◌, arith, unsigned_abs, lit<}
-use Rattle.std.proofs.lemmas.Int.{ints, to_z_pos, fits_signed_from_abs}
+use Rattle.std.proofs.lemmas.Int.{ints, to_z_pos}
 use Rattle.std.proofs.lemmas.Grind.{div_ceil_times}
 use Rattle.std.specs.Int.{w128, div_ceil}
 use mir.Val.{to_z}

@@ -1,5 +1,5 @@
 -- What the calls of the terms of the difference need and give, over plain intervals.
-use Rattle.std.proofs.Common.{ℕ, ℤ, pos, ◌≡◌, ◌∙◌, ◌+◌, ◌*◌, ◌^◌, ◌≤◌, ◌<◌, ◌≤ℤ◌, ◌<ℤ◌, arith, ap, subst, sym, lit≤}
+use Rattle.std.proofs.Common.{ℕ, pos, ◌≡◌, ◌∙◌, ◌+◌, ◌*◌, ◌^◌, ◌≤◌, ◌<◌, ◌≤ℤ◌, arith, ap, subst, sym, lit≤}
 use Rattle.interval_specs.specs.Ends.{Ends, size_of}
 use Rattle.interval_specs.specs.Ranges.{Sized, UpTo}
 use Rattle.interval_specs.specs.Operations.{cut_low_at, difference_of, fraction_of, quotient_at, square_at, sum_of}

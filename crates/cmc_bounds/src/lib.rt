@@ -6,6 +6,7 @@ mod chroma;
 mod difference;
 mod formula;
 mod hue;
+pub mod laws;
 mod lightness;
 mod quotient;
 mod rule;

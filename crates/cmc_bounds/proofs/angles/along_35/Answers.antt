@@ -1,4 +1,4 @@
-use Rattle.std.proofs.Common.{◌≡◌, ◌*◌, ◌∙◌, ap, lit<}
+use Rattle.std.proofs.Common.{◌*◌, ◌∙◌, ap, lit<}
 use Rattle.interval_specs.specs.Operations.{difference_of, product_at}
 use Rattle.interval_specs.proofs.Ranges.{carry_sized}
 use Rattle.cmc_specs.specs.Cmc.{along_35, cos35, sin35}

@@ -1,4 +1,3 @@
-use Rattle.std.proofs.Common.{◌≡◌, pos, ◌+◌, ◌*◌, ◌^◌, ◌≤◌}
 use Rattle.interval_specs.proofs.Held.{held_by, is_ends}
 use Rattle.interval_specs.proofs.Ranges.{carry_up_to}
 use Rattle.fix_bounds.proofs.Passed.{read}

@@ -1,4 +1,4 @@
-use Rattle.std.proofs.Common.{◌≡◌, ◌*◌, ◌∙◌, ap}
+use Rattle.std.proofs.Common.{◌*◌, ◌∙◌, ap}
 use Rattle.interval_specs.specs.Operations.{product_at, sum_of}
 use Rattle.interval_specs.proofs.Ranges.{carry_sized}
 use Rattle.cmc_specs.specs.Cmc.{bracket}

@@ -1,4 +1,4 @@
-use Rattle.std.proofs.Common.{◌≡◌, ◌∙◌, ap}
+use Rattle.std.proofs.Common.{◌∙◌, ap}
 use Rattle.interval_specs.specs.Roots.{sqrt_at}
 use Rattle.cmc_specs.specs.Cmc.{chroma_at}
 use Rattle.cmc_bounds.proofs.TermCalls.{chroma_known}

@@ -1,7 +1,7 @@
-use Rattle.std.proofs.Common.{◌≡◌, ◌*◌, ◌^◌, ◌≤◌, ◌∙◌, subst, sym, lit≤}
+use Rattle.std.proofs.Common.{◌*◌, ◌∙◌, subst, sym, lit≤}
 use Rattle.interval_specs.specs.Ends.{IsHeld}
 use Rattle.interval_specs.proofs.Ranges.{carry_up_to}
-use Rattle.fix_bounds.proofs.Passed.{passed, read}
+use Rattle.fix_bounds.proofs.Passed.{read}
 use Rattle.cmc_specs.specs.Cmc.{chroma_bottom, chroma_gain, chroma_top}
 use Rattle.cmc_specs.proofs.Sizes.{chroma_gain_up_to}
 use Rattle.cmc_bounds.proofs.Calls.{held_up_to, some_units, up_to_size}

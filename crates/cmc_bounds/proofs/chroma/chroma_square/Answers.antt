@@ -1,4 +1,4 @@
-use Rattle.std.proofs.Common.{◌≡◌, ◌*◌, ◌^◌, ◌≤◌, ◌∙◌, lit≤}
+use Rattle.std.proofs.Common.{◌*◌, ◌^◌, ◌∙◌, lit≤}
 use Rattle.interval_specs.specs.Operations.{square_at, sum_of}
 use Rattle.interval_specs.proofs.Ranges.{carry_up_to}
 use Rattle.cmc_specs.specs.Cmc.{chroma_square}

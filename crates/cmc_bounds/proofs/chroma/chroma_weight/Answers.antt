@@ -1,4 +1,4 @@
-use Rattle.std.proofs.Common.{◌≡◌, pos, ◌*◌, ◌∙◌, subst, sym}
+use Rattle.std.proofs.Common.{◌*◌, ◌∙◌, subst, sym}
 use Rattle.interval_specs.specs.Operations.{sum_of}
 use Rattle.interval_specs.proofs.Ranges.{carry_up_to}
 use Rattle.cmc_specs.specs.AtLeast.{AtLeast}

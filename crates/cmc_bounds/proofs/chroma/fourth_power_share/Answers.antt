@@ -1,7 +1,7 @@
-use Rattle.std.proofs.Common.{◌≡◌, ◌+◌, ◌*◌, ◌^◌, ◌≤◌, ◌∙◌, subst, sym}
+use Rattle.std.proofs.Common.{◌+◌, ◌*◌, ◌^◌, ◌∙◌, subst, sym}
 use Rattle.interval_specs.specs.Ends.{IsHeld}
 use Rattle.interval_specs.proofs.Ranges.{carry_up_to}
-use Rattle.fix_bounds.proofs.Passed.{passed, read}
+use Rattle.fix_bounds.proofs.Passed.{read}
 use Rattle.cmc_specs.specs.Cmc.{fourth_power_share}
 use Rattle.cmc_specs.proofs.UnitRanges.{share_up_to}
 use Rattle.cmc_bounds.proofs.Calls.{held_unit, some_units, up_to_size}

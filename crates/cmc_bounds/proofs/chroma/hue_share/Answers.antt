@@ -1,4 +1,4 @@
-use Rattle.std.proofs.Common.{◌≡◌, ◌*◌, ◌^◌, ◌≤◌, ◌∙◌, ap, lit≤}
+use Rattle.std.proofs.Common.{◌*◌, ◌^◌, ◌∙◌, ap, lit≤}
 use Rattle.interval_specs.specs.Roots.{sqrt_at}
 use Rattle.interval_specs.proofs.Ranges.{carry_up_to}
 use Rattle.cmc_specs.specs.Cmc.{fourth_power_share, hue_share}

@@ -1,4 +1,4 @@
-use Rattle.std.proofs.Common.{◌*◌, ◌^◌, ◌≤◌, lit≤}
+use Rattle.std.proofs.Common.{lit≤}
 use Rattle.cmc_bounds.proofs.Calls.{sum_room, up_to_size}
 use Rattle.cmc_bounds.proofs.TermCalls.{chroma_apart}
 use Rattle.cmc_bounds.proofs.difference.chroma_difference.Goals as goal

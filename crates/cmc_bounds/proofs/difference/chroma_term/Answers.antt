@@ -1,5 +1,5 @@
-use Rattle.std.proofs.Common.{◌≡◌, ◌*◌, ◌^◌, ◌≤◌, ◌∙◌, arith, lit<, lit≤, le_trans}
-use Rattle.interval_specs.specs.Operations.{fraction_of, quotient_at}
+use Rattle.std.proofs.Common.{◌*◌, ◌∙◌, lit<, lit≤, le_trans}
+use Rattle.interval_specs.specs.Operations.{quotient_at}
 use Rattle.interval_specs.proofs.Ranges.{carry_sized}
 use Rattle.cmc_specs.proofs.TermSizes.{chroma_term_sized}
 use Rattle.cmc_bounds.proofs.Calls.{above_0, chroma_divisor, far_from_0, quotient_room, tenths_room, up_to_size}

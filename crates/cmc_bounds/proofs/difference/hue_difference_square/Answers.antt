@@ -1,5 +1,5 @@
-use Rattle.std.proofs.Common.{◌≡◌, pos, ◌*◌, ◌^◌, ◌≤◌, ◌∙◌, ap, lit≤}
-use Rattle.interval_specs.specs.Operations.{cut_low_at, difference_of}
+use Rattle.std.proofs.Common.{pos, ◌∙◌, ap, lit≤}
+use Rattle.interval_specs.specs.Operations.{cut_low_at}
 use Rattle.cmc_bounds.proofs.Calls.{square_room}
 use Rattle.cmc_bounds.proofs.TermCalls.{coordinates_room, hue_square_range, squares_room}
 use Rattle.cmc_bounds.proofs.difference.hue_difference_square.Goals as goal

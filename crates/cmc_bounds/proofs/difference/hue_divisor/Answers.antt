@@ -1,5 +1,4 @@
-use Rattle.std.proofs.Common.{◌*◌, ◌^◌, ◌≤◌, lit≤}
-use Rattle.cmc_specs.specs.AtLeast.{AtLeast}
+use Rattle.std.proofs.Common.{lit≤}
 use Rattle.cmc_bounds.proofs.Calls.{hue_divisor, square_room, up_to_size}
 use Rattle.cmc_bounds.proofs.difference.hue_divisor.Goals as goal
 

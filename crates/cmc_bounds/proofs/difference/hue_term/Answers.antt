@@ -1,5 +1,5 @@
-use Rattle.std.proofs.Common.{◌≡◌, ◌*◌, ◌^◌, ◌≤◌, ◌∙◌, lit<, lit≤}
-use Rattle.interval_specs.specs.Operations.{quotient_at, square_at}
+use Rattle.std.proofs.Common.{◌*◌, ◌^◌, ◌∙◌, lit<, lit≤}
+use Rattle.interval_specs.specs.Operations.{quotient_at}
 use Rattle.interval_specs.proofs.Ranges.{carry_up_to}
 use Rattle.cmc_specs.proofs.TermSizes.{hue_term_up_to}
 use Rattle.cmc_bounds.proofs.Calls.{above_0, far_from_0, quotient_room, up_to_size}

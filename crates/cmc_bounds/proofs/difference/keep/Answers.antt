@@ -1,4 +1,3 @@
-use Rattle.std.proofs.Common.{◌≡◌, ◌*◌, ◌^◌, ◌≤◌}
 use Rattle.cmc_bounds.proofs.TermCalls.{chroma_known, standard_is}
 use Rattle.cmc_bounds.proofs.difference.keep.Goals as goal
 

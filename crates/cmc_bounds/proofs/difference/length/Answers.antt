@@ -1,5 +1,5 @@
-use Rattle.std.proofs.Common.{◌≡◌, ◌*◌, ◌^◌, ◌≤◌, ◌∙◌, ap, lit≤}
-use Rattle.interval_specs.specs.Operations.{square_at, sum_of}
+use Rattle.std.proofs.Common.{◌∙◌, ap, lit≤}
+use Rattle.interval_specs.specs.Operations.{sum_of}
 use Rattle.interval_specs.specs.Roots.{sqrt_at}
 use Rattle.cmc_bounds.proofs.Calls.{some_units, square_room}
 use Rattle.cmc_bounds.proofs.TermCalls.{both_room, both_up_to, sum_root, third_room}

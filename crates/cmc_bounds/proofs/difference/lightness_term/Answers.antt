@@ -1,8 +1,8 @@
-use Rattle.std.proofs.Common.{◌≡◌, ◌*◌, ◌^◌, ◌≤◌, ◌∙◌, arith, lit<, lit≤, le_trans, mul-le-mul_right}
-use Rattle.interval_specs.specs.Operations.{difference_of, fraction_of, quotient_at}
-use Rattle.interval_specs.proofs.Ranges.{carry_sized, up_to_wider}
+use Rattle.std.proofs.Common.{◌*◌, ◌∙◌, lit<, lit≤, le_trans}
+use Rattle.interval_specs.specs.Operations.{difference_of, quotient_at}
+use Rattle.interval_specs.proofs.Ranges.{carry_sized}
 use Rattle.cmc_specs.proofs.TermSizes.{coordinates_apart, lightness_term_sized}
-use Rattle.cmc_bounds.proofs.Calls.{above_0, far_from_0, lightness_divisor, quotient_room, tenths_room, up_to_size, light_size}
+use Rattle.cmc_bounds.proofs.Calls.{above_0, far_from_0, lightness_divisor, quotient_room, tenths_room, light_size}
 use Rattle.cmc_bounds.proofs.difference.lightness_term.Goals as goal
 
 pub ratio_up-requires-clause-room : goal.ratio_up-requires-clause-room

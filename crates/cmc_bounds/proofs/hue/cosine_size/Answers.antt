@@ -1,8 +1,7 @@
-use Rattle.std.proofs.Common.{◌≡◌, pos, ◌∙◌, refl}
+use Rattle.std.proofs.Common.{pos, ◌∙◌, refl}
 use Rattle.interval_specs.proofs.Held.{is_ends}
 use Rattle.interval_specs.proofs.Ranges.{carry_up_to}
 use Rattle.fix_bounds.proofs.Passed.{read}
-use Rattle.cmc_specs.specs.Cmc.{cosine_size}
 use Rattle.cmc_specs.proofs.UnitRanges.{cosine_size_up_to}
 use Rattle.cmc_bounds.proofs.HueCalls.{any_cosine, bits_zero, cosine_room, known_cosine, zero_bits}
 use Rattle.cmc_bounds.proofs.hue.cosine_size.Goals as goal

@@ -1,5 +1,4 @@
-use Rattle.std.proofs.Common.{◌≡◌, Bool, true, false, ◌∙◌, subst, sym}
-use Rattle.interval_specs.proofs.Ranges.{carry_up_to}
+use Rattle.std.proofs.Common.{◌∙◌, subst, sym}
 use Rattle.cmc_specs.specs.AtLeast.{AtLeast}
 use Rattle.cmc_specs.specs.Cmc.{first_form, hue_factor, hue_sum_15, hue_sum_16, is_inside, is_outside, second_form}
 use Rattle.cmc_specs.proofs.Ranges.{hue_factor_at_least}

@@ -1,6 +1,4 @@
-use Rattle.std.proofs.Common.{◌≡◌, ◌*◌, ◌^◌, ◌≤◌, lit≤, sym, subst}
-use Rattle.interval_specs.specs.Ends.{Ends}
-use Rattle.interval_specs.specs.Operations.{product_at}
+use Rattle.std.proofs.Common.{◌*◌, lit≤, sym, subst}
 use Rattle.interval_specs.proofs.Ranges.{carry_up_to}
 use Rattle.cmc_specs.specs.AtLeast.{AtLeast}
 use Rattle.cmc_specs.specs.Cmc.{hue_weight}

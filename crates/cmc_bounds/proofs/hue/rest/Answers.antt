@@ -1,4 +1,4 @@
-use Rattle.std.proofs.Common.{◌≡◌, ◌∙◌}
+use Rattle.std.proofs.Common.{◌∙◌}
 use Rattle.interval_specs.specs.Ends.{whole}
 use Rattle.interval_specs.specs.Operations.{difference_of}
 use Rattle.interval_specs.proofs.Held.{is_ends}

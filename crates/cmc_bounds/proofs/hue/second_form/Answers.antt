@@ -1,4 +1,4 @@
-use Rattle.std.proofs.Common.{◌≡◌, ◌∙◌, ap, lit≤}
+use Rattle.std.proofs.Common.{◌∙◌, ap, lit≤}
 use Rattle.interval_specs.specs.Operations.{fraction_of, sum_of}
 use Rattle.interval_specs.proofs.Ranges.{carry_up_to}
 use Rattle.cmc_specs.specs.Cmc.{along_12, cosine_size, second_form}

@@ -1,8 +1,8 @@
-use Rattle.std.proofs.Common.{ℤ, ◌≡◌, pos, ◌*◌, ◌^◌, ◌≤◌, ◌∙◌, ap, subst, sym, lit≤}
+use Rattle.std.proofs.Common.{pos, ◌*◌, ◌∙◌, ap, subst, sym, lit≤}
 use Rattle.interval_specs.specs.Ends.{IsHeld}
 use Rattle.interval_specs.specs.Operations.{cut_low_at}
 use Rattle.interval_specs.proofs.Ranges.{carry_up_to}
-use Rattle.fix_bounds.proofs.Passed.{passed, read}
+use Rattle.fix_bounds.proofs.Passed.{read}
 use Rattle.cmc_specs.specs.Cmc.{high_weight, lightness_bottom, lightness_top}
 use Rattle.cmc_specs.proofs.Sizes.{high_weight_up_to}
 use Rattle.cmc_bounds.proofs.Calls.{held_up_to, raised_size, some_units}

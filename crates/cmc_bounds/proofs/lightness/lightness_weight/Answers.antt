@@ -1,4 +1,4 @@
-use Rattle.std.proofs.Common.{◌≡◌, ◌*◌, ◌∙◌, subst, sym}
+use Rattle.std.proofs.Common.{◌*◌, ◌∙◌, subst, sym}
 use Rattle.interval_specs.proofs.Ranges.{carry_up_to}
 use Rattle.cmc_specs.specs.AtLeast.{AtLeast}
 use Rattle.cmc_specs.specs.Cmc.{high_weight, is_dark, is_light, lightness_weight, low_weight}
