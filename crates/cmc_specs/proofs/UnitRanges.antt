@@ -16,7 +16,7 @@ use Rattle.cmc_specs.proofs.Shares.{quotients_in_order}
 
 -- ---- F lies from 0 to 1
 
-share_up_to : (n : ℕ) (x : Ends) → 0 < n → pos 0 ≤ℤ x.lo → IsOrdered x → UpTo n (fourth_power_share n x)
+pub share_up_to : (n : ℕ) (x : Ends) → 0 < n → pos 0 ≤ℤ x.lo → IsOrdered x → UpTo n (fourth_power_share n x)
 unfolding fourth_power_share
 share_up_to n x some z o =
     let t = unsigned_abs x.lo in

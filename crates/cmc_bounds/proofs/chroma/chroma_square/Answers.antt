@@ -1,0 +1,34 @@
+use Rattle.std.proofs.Common.{◌*◌, ◌^◌, ◌∙◌, lit≤}
+use Rattle.interval_specs.specs.Operations.{square_at, sum_of}
+use Rattle.interval_specs.proofs.Ranges.{carry_up_to}
+use Rattle.cmc_specs.specs.Cmc.{chroma_square}
+use Rattle.cmc_specs.proofs.TermSizes.{squares_up_to}
+use Rattle.cmc_bounds.proofs.Calls.{apart_square, some_units, square_room, sum_room, up_to_size}
+use Rattle.cmc_bounds.proofs.TermCalls.{square_known}
+use Rattle.cmc_bounds.proofs.chroma.chroma_square.Goals as goal
+
+pub square-first-requires : goal.square-first-requires
+square-first-requires g c = square_room g.S.Scale.unit 2000 c.args.a g.S.Scale.most (lit≤ tt) c.requires.a.small
+
+pub square-second-requires : goal.square-second-requires
+square-second-requires g c = square_room g.S.Scale.unit 2000 c.args.b g.S.Scale.most (lit≤ tt) c.requires.b.small
+
+pub add-requires : goal.add-requires
+add-requires g c =
+    let some = some_units g.S.Scale.unit g.S.Scale.least in
+    sum_room g.S.Scale.unit (4 * 10 ^ 6) (4 * 10 ^ 6) c.square-first.result c.square-second.result g.S.Scale.most (lit≤ tt) (lit≤ tt)
+    (up_to_size _ c.square-first.result (apart_square g.S.Scale.unit c.args.a c.square-first.result some c.requires.a c.square-first.ensures.is))
+    (up_to_size _ c.square-second.result (apart_square g.S.Scale.unit c.args.b c.square-second.result some c.requires.b c.square-second.ensures.is))
+
+pub returns-clause-is : goal.returns-clause-is
+unfolding chroma_square
+returns-clause-is g c = c.add.ensures.is ∙ (λ i. sum_of (c.square-first.ensures.is i) (c.square-second.ensures.is i))
+
+pub returns-clause-range : goal.returns-clause-range
+unfolding chroma_square
+returns-clause-range g c =
+    carry_up_to (8 * 10 ^ 6 * g.S.Scale.unit) c.add.result (sum_of (square_at g.S.Scale.unit c.args.a) (square_at g.S.Scale.unit c.args.b)) (returns-clause-is g c)
+    (squares_up_to g.S.Scale.unit c.args.a c.args.b (some_units g.S.Scale.unit g.S.Scale.least) c.requires.a c.requires.b)
+
+pub returns-clause-narrow : goal.returns-clause-narrow
+returns-clause-narrow g c s t = square_known g.S.Scale.unit c.args.a c.args.b c.add.result g.S.Scale.least s t (returns-clause-is g c)

@@ -1,0 +1,101 @@
+ghost use Rattle.std.specs.Prelude.{◌≡◌, ℕ, ◌+◌, ◌*◌, ◌^◌, ◌≤◌, unsigned_abs};
+ghost use Rattle.interval_specs.specs.Ends.{IsHeld};
+ghost use Rattle.interval_specs.specs.Ranges.{Sized, UpTo};
+ghost use Rattle.cmc_specs.specs.AtLeast.{AtLeast};
+ghost use Rattle.cmc_specs.specs.Cmc.{chroma_at, chroma_bottom, chroma_gain, chroma_square, chroma_top, chroma_weight, fourth_power_share, hue_share};
+ghost use Rattle.cmc_bounds.specs.Chroma.{IsChroma};
+
+use crate::quotient::{Quotient, outward, times_unit, unit};
+use fix_bounds::{Iv, Scale};
+use root_bounds::sqrt_iv;
+
+/// The sum of the squares of two opponent coordinates, or of two differences of them.
+pub fn chroma_square<S: Scale>(a: Iv<S>, b: Iv<S>) -> Iv<S>
+    requires a { Sized (2000 * S.unit) a }
+    requires b { Sized (2000 * S.unit) b }
+    ensures is { result ≡ chroma_square S.unit a b }
+    ensures range { UpTo (8 * 10 ^ 6 * S.unit) result }
+    ensures narrow { Sized (1000 * S.unit) a → Sized (1000 * S.unit) b → UpTo (2 * 10 ^ 6 * S.unit) result }
+{
+    let first = a.square();
+    let second = b.square();
+    first.add(second)
+}
+
+/// The chroma.
+pub fn chroma<S: Scale>(a: Iv<S>, b: Iv<S>) -> Iv<S>
+    requires a { Sized (1000 * S.unit) a }
+    requires b { Sized (1000 * S.unit) b }
+    ensures is { result ≡ chroma_at S.unit a b }
+    ensures range { IsChroma S.unit result }
+{
+    sqrt_iv(chroma_square(a, b))
+}
+
+/// What S_C gains at an end of the chroma.
+fn gain_at<S: Scale>(t: i128) -> Quotient
+    requires { unsigned_abs t ≤ 1415 * S.unit }
+    ensures top { result.top ≡ chroma_top S.unit (unsigned_abs t) }
+    ensures bottom { result.bottom ≡ chroma_bottom S.unit (unsigned_abs t) }
+{
+    let size = t.unsigned_abs();
+    Quotient {
+        top: times_unit::<S>(638 * size),
+        bottom: 10_000 * unit::<S>() + 131 * size,
+    }
+}
+
+/// What S_C gains with the chroma.
+fn chroma_gain<S: Scale>(c1: Iv<S>) -> Iv<S>
+    requires { UpTo (1415 * S.unit) c1 }
+    ensures is { result ≡ chroma_gain S.unit c1 }
+    ensures range { UpTo (5 * S.unit) result }
+{
+    let low = gain_at::<S>(c1.lo());
+    let high = gain_at::<S>(c1.hi());
+    outward(low, high)
+}
+
+/// S_C.
+pub fn chroma_weight<S: Scale>(c1: Iv<S>) -> Iv<S>
+    requires { UpTo (1415 * S.unit) c1 }
+    ensures is { result ≡ chroma_weight S.unit c1 }
+    ensures range { UpTo (6 * S.unit) result }
+    ensures least { AtLeast 637 1000 S.unit result }
+{
+    let least: Iv<S> = Iv::of_ratio(638, 1000);
+    least.add(chroma_gain(c1))
+}
+
+/// The share of a fourth power at one of its ends.
+fn share_at<S: Scale>(x: i128) -> Quotient
+    requires { unsigned_abs x ≤ 4 * 10 ^ 12 * S.unit }
+    ensures top { result.top ≡ unsigned_abs x * S.unit }
+    ensures bottom { result.bottom ≡ unsigned_abs x + 1900 * S.unit }
+{
+    let size = x.unsigned_abs();
+    Quotient {
+        top: times_unit::<S>(size),
+        bottom: size + 1900 * unit::<S>(),
+    }
+}
+
+/// The share of a fourth power in its sum with 1900.
+fn fourth_power_share<S: Scale>(x: Iv<S>) -> Iv<S>
+    requires { UpTo (4 * 10 ^ 12 * S.unit) x }
+    ensures is { result ≡ fourth_power_share S.unit x }
+    ensures range { UpTo S.unit result }
+{
+    let low = share_at::<S>(x.lo());
+    let high = share_at::<S>(x.hi());
+    outward(low, high)
+}
+
+/// F, from the square of the chroma.
+pub fn hue_share<S: Scale>(p1: Iv<S>) -> Iv<S>
+    requires { UpTo (2 * 10 ^ 6 * S.unit) p1 }
+    ensures is { result ≡ hue_share S.unit p1 }
+    ensures range { UpTo S.unit result }
+{
+    sqrt_iv(fourth_power_share(p1.square()))
+}

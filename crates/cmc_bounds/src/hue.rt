@@ -1,0 +1,109 @@
+ghost use Rattle.std.specs.Prelude.{◌≡◌, ℕ, ℤ, pos, ◌*◌, ◌^◌, ◌<◌, ◌≤◌};
+ghost use Rattle.interval_specs.specs.Ends.{whole};
+ghost use Rattle.interval_specs.specs.Ranges.{Sized, UpTo};
+ghost use Rattle.interval_specs.specs.Operations.{difference_of};
+ghost use Rattle.cmc_specs.specs.AtLeast.{AtLeast};
+ghost use Rattle.cmc_specs.specs.Cmc.{along_12, along_35, cosine_size, first_form, hue_factor, hue_sum_15, hue_sum_16, hue_weight, is_inside, is_outside, second_form};
+ghost use Rattle.cmc_bounds.specs.Chroma.{IsChroma};
+
+use crate::angles::{COS_12, COS_15, COS_16, SIN_12, SIN_15, SIN_16, along_35, turned};
+use fix_bounds::{Iv, Scale};
+
+/// The size of a cosine, from its product with the chroma: any from 0 to 1 where the chroma may be 0.
+fn cosine_size<S: Scale>(product: Iv<S>, c1: Iv<S>) -> Iv<S>
+    requires product { Sized (2000 * S.unit) product }
+    requires chroma { IsChroma S.unit c1 }
+    ensures is { result ≡ cosine_size S.unit product c1 }
+    ensures range { UpTo S.unit result }
+{
+    if c1.lo() == 0 {
+        Iv::of_ends(0, S::UNIT)
+    } else {
+        product.abs().div(c1).cut_high(1)
+    }
+}
+
+/// T for hues outside 164 to 345 degrees.
+fn first_form<S: Scale>(a: Iv<S>, b: Iv<S>, c1: Iv<S>) -> Iv<S>
+    requires a { Sized (1000 * S.unit) a }
+    requires b { Sized (1000 * S.unit) b }
+    requires chroma { IsChroma S.unit c1 }
+    ensures is { result ≡ first_form S.unit a b c1 }
+    ensures range { UpTo S.unit result }
+{
+    let size = cosine_size(along_35(a, b), c1);
+    let least: Iv<S> = Iv::of_ratio(36, 100);
+    least.add(size.ratio_up(4, 10))
+}
+
+/// T for hues from 164 to 345 degrees.
+fn second_form<S: Scale>(a: Iv<S>, b: Iv<S>, c1: Iv<S>) -> Iv<S>
+    requires a { Sized (1000 * S.unit) a }
+    requires b { Sized (1000 * S.unit) b }
+    requires chroma { IsChroma S.unit c1 }
+    ensures is { result ≡ second_form S.unit a b c1 }
+    ensures range { UpTo S.unit result }
+{
+    let size = cosine_size(turned(a, COS_12, b, SIN_12), c1);
+    let least: Iv<S> = Iv::of_ratio(56, 100);
+    least.add(size.ratio_up(2, 10))
+}
+
+/// Does the hue lie outside 164 to 345 degrees, by the two sums that are then above 0?
+fn is_outside<S: Scale>(p: Iv<S>, r: Iv<S>) -> bool
+    ensures { result ≡ is_outside p r }
+{
+    0 < p.lo() && 0 < r.lo()
+}
+
+/// Does the hue lie from 164 to 345 degrees?
+fn is_inside<S: Scale>(p: Iv<S>, r: Iv<S>) -> bool
+    ensures { result ≡ is_inside p r }
+{
+    p.hi() <= 0 || r.hi() <= 0
+}
+
+/// T.
+pub fn hue_factor<S: Scale>(a: Iv<S>, b: Iv<S>, c1: Iv<S>) -> Iv<S>
+    requires a { Sized (1000 * S.unit) a }
+    requires b { Sized (1000 * S.unit) b }
+    requires chroma { IsChroma S.unit c1 }
+    ensures is { result ≡ hue_factor S.unit a b c1 }
+    ensures range { UpTo S.unit result }
+    ensures least { AtLeast 35 100 S.unit result }
+{
+    let p = turned(a, SIN_15, b, COS_15);
+    let r = turned(a, SIN_16, b, COS_16);
+    if is_outside(p, r) {
+        first_form(a, b, c1)
+    } else if is_inside(p, r) {
+        second_form(a, b, c1)
+    } else {
+        first_form(a, b, c1).hull(second_form(a, b, c1))
+    }
+}
+
+/// One less `x`.
+fn rest<S: Scale>(x: Iv<S>) -> Iv<S>
+    requires { UpTo S.unit x }
+    ensures is { result ≡ difference_of (whole S.unit) x }
+    ensures range { UpTo S.unit result }
+{
+    let one: Iv<S> = Iv::of_ends(S::UNIT, S::UNIT);
+    one.sub(x)
+}
+
+/// S_H.
+pub fn hue_weight<S: Scale>(sc: Iv<S>, f: Iv<S>, t: Iv<S>) -> Iv<S>
+    requires sc { UpTo (6 * S.unit) sc }
+    requires sc_least { AtLeast 637 1000 S.unit sc }
+    requires f { UpTo S.unit f }
+    requires t { UpTo S.unit t }
+    requires t_least { AtLeast 35 100 S.unit t }
+    ensures is { result ≡ hue_weight S.unit sc f t }
+    ensures range { UpTo (6 * S.unit) result }
+    ensures least { AtLeast 22 100 S.unit result }
+{
+    let taken = f.mul(rest(t));
+    sc.mul(rest(taken))
+}

@@ -1,0 +1,20 @@
+//! The CMC(l:c) colour difference (ISO 105-J03) of intervals, at two scales.
+#![tactic(auto)]
+
+mod angles;
+mod chroma;
+mod difference;
+mod formula;
+mod hue;
+pub mod laws;
+mod lightness;
+mod quotient;
+mod rule;
+mod standard;
+
+pub use difference::delta;
+pub use rule::Cmc;
+pub use standard::Standard;
+
+#[cfg(test)]
+mod tests;

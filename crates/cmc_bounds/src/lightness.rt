@@ -1,0 +1,70 @@
+ghost use Rattle.std.specs.Prelude.{◌≡◌, ℕ, ◌*◌, ◌^◌, ◌≤◌, unsigned_abs};
+ghost use Rattle.interval_specs.specs.Ranges.{Sized, UpTo};
+ghost use Rattle.cmc_specs.specs.AtLeast.{AtLeast};
+ghost use Rattle.cmc_specs.specs.Cmc.{high_weight, is_dark, is_light, lightness_bottom, lightness_top, lightness_weight, low_weight};
+
+use crate::quotient::{Quotient, outward, times_unit, unit};
+use fix_bounds::{Iv, Scale};
+
+/// S_L of light colours, at an end of the lightness.
+fn high_weight_at<S: Scale>(t: i128) -> Quotient
+    requires { unsigned_abs t ≤ 1000 * S.unit }
+    ensures top { result.top ≡ lightness_top S.unit (unsigned_abs t) }
+    ensures bottom { result.bottom ≡ lightness_bottom S.unit (unsigned_abs t) }
+{
+    let size = t.unsigned_abs();
+    Quotient {
+        top: times_unit::<S>(40_975 * size),
+        bottom: 1_000_000 * unit::<S>() + 17_650 * size,
+    }
+}
+
+/// S_L of light colours.
+fn high_weight<S: Scale>(l1: Iv<S>) -> Iv<S>
+    requires { Sized (1000 * S.unit) l1 }
+    ensures is { result ≡ high_weight S.unit l1 }
+    ensures range { UpTo (3 * S.unit) result }
+{
+    let raised = l1.cut_low(16);
+    let low = high_weight_at::<S>(raised.lo());
+    let high = high_weight_at::<S>(raised.hi());
+    outward(low, high)
+}
+
+/// S_L of dark colours.
+fn low_weight<S: Scale>() -> Iv<S>
+    ensures is { result ≡ low_weight S.unit }
+    ensures range { UpTo (3 * S.unit) result }
+{
+    Iv::of_ratio(511, 1000)
+}
+
+/// Is the lightness nowhere below 16?
+fn is_light<S: Scale>(l1: Iv<S>) -> bool
+    ensures { result ≡ is_light S.unit l1 }
+{
+    16 * S::UNIT <= l1.lo()
+}
+
+/// Is the lightness everywhere below 16?
+fn is_dark<S: Scale>(l1: Iv<S>) -> bool
+    ensures { result ≡ is_dark S.unit l1 }
+{
+    l1.hi() < 16 * S::UNIT
+}
+
+/// S_L.
+pub fn lightness_weight<S: Scale>(l1: Iv<S>) -> Iv<S>
+    requires { Sized (1000 * S.unit) l1 }
+    ensures is { result ≡ lightness_weight S.unit l1 }
+    ensures range { UpTo (3 * S.unit) result }
+    ensures least { AtLeast 51 100 S.unit result }
+{
+    if is_light(l1) {
+        high_weight(l1)
+    } else if is_dark(l1) {
+        low_weight()
+    } else {
+        high_weight(l1).hull(low_weight())
+    }
+}
