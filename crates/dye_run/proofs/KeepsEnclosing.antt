@@ -1,5 +1,5 @@
 -- K/S keeps enclosing where the scale grows from the base scale.
-use Rattle.std.proofs.Common.{◌≡◌, ◌+◌, ◌*◌, ◌-◌, ◌^◌, ◌<◌, ℕ, zero, suc, pos, List, [], ◌∷◌, All, ap, ◌∙◌, arith}
+use Rattle.std.proofs.Common.{◌≡◌, ◌+◌, ◌*◌, ◌-◌, ◌^◌, ◌<◌, ℕ, zero, suc, pos, List, [], ◌∷◌, None, decimal, All, ap, ◌∙◌, arith}
 use Rattle.std.proofs.Math.Nat.{div-zero}
 use Rattle.std.proofs.lemmas.Int.{ints}
 use Rattle.std.proofs.lemmas.List.Elements.{All-cons}
@@ -7,7 +7,8 @@ use Rattle.interval_specs.specs.Encloses.{Encloses}
 use Rattle.interval_specs.specs.Operations.{ratio_at}
 use Rattle.interval_specs.specs.Rounding.{floor_over, ceil_over}
 use Rattle.interval_specs.proofs.RatioLaw.{ratio_encloses}
-use Rattle.dye_run.specs.Answers.{KeepsEnclosing, base_unit}
+use Rattle.dye_run.specs.Answers.{StandsFiner, base_unit, evaluation}
+use Rattle.dye_run.proofs.Verdicts.{stands}
 use Rattle.dye_run.specs.KubelkaMunk.{ks_at, ks_evaluations}
 
 -- a quotient by nothing
@@ -37,6 +38,6 @@ unfolding ks_at
 ks_encloses m zero some = by_zero m some
 ks_encloses m (suc r) some = ratio_encloses base_unit m _ (2 * 10 ^ 6 * suc r) (omega arith)
 
-pub ks_keeps : (wavelength : ℕ) (curve : List ℕ) → All KeepsEnclosing (ks_evaluations wavelength curve)
-ks_keeps wavelength [] = λ k d h. absurd (omega arith)
-ks_keeps wavelength (r ∷ curve) = All-cons KeepsEnclosing _ (ks_evaluations (wavelength + 10) curve) (λ m some. ks_encloses m r some) (ks_keeps (wavelength + 10) curve)
+pub ks_stands : (wavelength : ℕ) (curve : List ℕ) → All StandsFiner (ks_evaluations wavelength curve)
+ks_stands wavelength [] = λ k d h. absurd (omega arith)
+ks_stands wavelength (r ∷ curve) = All-cons StandsFiner (evaluation (decimal wavelength) (λ n. ks_at n r)) (ks_evaluations (wavelength + 10) curve) (stands (decimal wavelength) (λ n. ks_at n r) None (λ m some. ks_encloses m r some)) (ks_stands (wavelength + 10) curve)

@@ -4,3 +4,6 @@ pub mod Lines
 pub mod Ends
 pub mod KeepsEnclosing
 pub mod Table
+pub mod Colours
+pub mod Verdicts
+pub mod Listed

@@ -2,7 +2,7 @@
 use Rattle.std.specs.Prelude.{ℕ, ◌+◌, ◌-◌, ◌*◌, ◌^◌, pos, List, [], ◌∷◌, decimal}
 use Rattle.interval_specs.specs.Ends.{Ends}
 use Rattle.interval_specs.specs.Operations.{ratio_at}
-use Rattle.dye_run.specs.Answers.{Evaluation}
+use Rattle.dye_run.specs.Answers.{Evaluation, evaluation}
 
 -- K/S = (1 - R)^2 / 2R at scale n, of a reflectance R of so many millionths
 unfoldable pub ks_at : ℕ → ℕ → Ends
@@ -12,4 +12,4 @@ ks_at n millionths = ratio_at n (pos ((10 ^ 6 - millionths) * (10 ^ 6 - milliont
 abbrev pub ks_evaluations : ℕ → List ℕ → List Evaluation
 ks_evaluations wavelength [] = []
 ks_evaluations wavelength (millionths ∷ curve) =
-    record { label = decimal wavelength; at = λ n. ks_at n millionths } ∷ ks_evaluations (wavelength + 10) curve
+    evaluation (decimal wavelength) (λ n. ks_at n millionths) ∷ ks_evaluations (wavelength + 10) curve

@@ -1,5 +1,6 @@
 pub mod Answers
 pub mod Asking
+pub mod Colours
 pub mod Commands
 pub mod Delivery
 pub mod Due
@@ -10,4 +11,5 @@ pub mod KubelkaMunk
 pub mod Replies
 pub mod Statuses
 pub mod Texts
+pub mod Verdicts
 pub mod Views

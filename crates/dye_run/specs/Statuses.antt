@@ -1,22 +1,27 @@
 -- What each status of the program says of the call.
-use Rattle.std.specs.Prelude.{◌≡◌, ◌⊎◌, ℕ, List, [], Option, Some, None, All, IsSome, Ok, length}
+use Rattle.std.specs.Prelude.{◌≡◌, ◌⊎◌, ℕ, List, [], Option, Some, None, All, IsSome, IsTrue, Bool, ◌||◌, ◌==◌, Ok, length}
 use Rattle.shelf_io.specs.Contents.{Contents}
 use Rattle.shelf_io.specs.Counts.{Rose}
-use Rattle.dye_run.specs.Answers.{Answer, KeepsEnclosing}
+use Rattle.dye_run.specs.Answers.{Answer, StandsFiner}
 use Rattle.dye_run.specs.Asking.{Answers, IsDue, result_of}
 use Rattle.dye_run.specs.Commands.{asking_for}
 use Rattle.dye_run.specs.Endings.{HasToSay, IsUnreadable, Leaves, LeavesFront, World}
 use Rattle.dye_run.specs.Forms.{Form}
 use Rattle.dye_run.specs.Texts.{unreadable_text, usage_text}
 
+-- the statuses of a report: 8 with a verdict that fails, 9 with one that is undecided, 0 else
+abbrev pub is_report_status : ℕ → Bool
+is_report_status status = (status == 0) || (status == 8) || (status == 9)
+
 module _ (reads_well : List ℕ → Type 0) (form : Option Form) (before after : World) where
-  -- 0: the report of the command, each enclosure of which holds those of every finer scale
+  -- 0, 8 and 9: the report of the command. Each enclosure in it holds those of every finer scale, and each verdict is
+  -- true there
   pub record IsReport (result : ℕ) : Type 0 where
     pub answer : Answer
     pub answers : Answers before.contents (asking_for form) answer
     pub status : answer.status ≡ result
     pub leaves : Leaves before after answer.text answer.written
-    pub encloses : All KeepsEnclosing answer.shown
+    pub finer : All StandsFiner answer.shown
 
   -- 1: the words have no listed form
   pub record IsUsage : Type 0 where
@@ -73,7 +78,7 @@ module _ (reads_well : List ℕ → Type 0) (form : Option Form) (before after :
 
   -- what each status tells of the call
   pub record StatusTells (status : ℕ) : Type 0 where
-    pub report : status ≡ 0 → IsReport status
+    pub report : IsTrue (is_report_status status) → IsReport status
     pub usage : status ≡ 1 → IsUsage
     pub no_form : form ≡ None → (status ≡ 1) ⊎ (status ≡ 4)
     pub unreadable : status ≡ 2 → NamesUnreadable

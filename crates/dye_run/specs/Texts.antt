@@ -6,7 +6,9 @@ use Rattle.spectral_tables.specs.declared.fault.TableRule.TheVariants as rule
 
 -- the forms that a command line may have
 abbrev pub usage_text : List ℕ
-usage_text = codes "usage: dye ks CURVES COLUMN\n"
+usage_text =
+    codes "usage: dye ks CURVES COLUMN\n" ++ codes "       dye xyz CURVES COLUMN WEIGHTS\n" ++ codes "       dye lab CURVES COLUMN WEIGHTS\n"
+    ++ codes "       dye diff CURVES STANDARD SAMPLE WEIGHTS L10 C10 [TOL]\n"
 
 -- a due file could not be read
 abbrev pub unreadable_text : List ℕ → List ℕ

@@ -2,6 +2,7 @@
 //! the shelf that it reads and the sink that it speaks to.
 #![tactic(auto)]
 
+mod colour;
 mod commands;
 mod delivery;
 mod kubelka_munk;
@@ -10,6 +11,7 @@ mod reply;
 mod report;
 mod tables;
 mod top;
+mod verdict;
 mod words;
 
 pub use top::run;

@@ -1,11 +1,11 @@
 ghost use Rattle.std.specs.Prelude.{◌≡◌, ◌≤◌, length, option_map};
 ghost use Rattle.std.specs.Option.{ForSome};
-ghost use Rattle.dye_run.specs.Commands.{book_from as spec_book_from, curve_from as spec_curve_from};
+ghost use Rattle.dye_run.specs.Commands.{book_from as spec_book_from, curve_from as spec_curve_from, weights_from as spec_weights_from};
 ghost use Rattle.dye_run.specs.Replies.{Gives};
 ghost use Rattle.spectral_tables.specs.Curve.{IsCurve};
 
 use crate::reply::{Refusal, no_column, table_fault, too_long};
-use spectral_tables::{Curve, CurveBook, TableError, read_curves};
+use spectral_tables::{Curve, CurveBook, TableError, Weights, read_curves, read_weights};
 use std::alloc::Global;
 
 /// How many bytes a file of curves or weights may have.
@@ -26,6 +26,26 @@ pub(crate) fn book_from(
     };
     match read_curves(alloc, bytes) {
         Ok(book) => Ok(book),
+        Err(TableError::Fault(fault)) => Err(table_fault(alloc, name, fault)),
+        Err(TableError::Memory) => Err(Refusal::Memory),
+    }
+}
+
+/// The weights of a file, of which these bytes came, or `None` where it is too long.
+#[tactic(auto, unfolding(crate::specs::Commands::weights_from))]
+pub(crate) fn weights_from(
+    alloc: Global,
+    name: &str,
+    came: Option<&[u8]>,
+) -> Result<Weights, Refusal>
+    requires { ForSome came (λ bytes. length bytes.now ≤ 1000000) }
+    ensures { Gives (λ w. w) result (spec_weights_from name.now (option_map (λ b. b.now) came.entry)) }
+{
+    let Some(bytes) = came else {
+        return Err(too_long(alloc, name));
+    };
+    match read_weights(alloc, bytes) {
+        Ok(weights) => Ok(weights),
         Err(TableError::Fault(fault)) => Err(table_fault(alloc, name, fault)),
         Err(TableError::Memory) => Err(Refusal::Memory),
     }

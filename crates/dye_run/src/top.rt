@@ -11,7 +11,8 @@ use crate::words::command_of;
 use shelf_io::{Shelf, Sink};
 use std::alloc::Global;
 
-const USAGE: &str = "usage: dye ks CURVES COLUMN\n";
+const USAGE: &str =
+    "usage: dye ks CURVES COLUMN\n       dye xyz CURVES COLUMN WEIGHTS\n       dye lab CURVES COLUMN WEIGHTS\n       dye diff CURVES STANDARD SAMPLE WEIGHTS L10 C10 [TOL]\n";
 
 const STATUS_USAGE: u8 = 1;
 

@@ -1,2 +1,3 @@
+pub mod ByZero
 pub mod Enclosing
 pub mod Sums

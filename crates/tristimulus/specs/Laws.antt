@@ -2,7 +2,7 @@
 use Rattle.std.specs.Prelude.{◌*◌, ℕ, List, [], ◌∷◌}
 use Rattle.interval_specs.specs.Ends.{Ends}
 use Rattle.interval_specs.specs.Encloses.{Encloses}
-use Rattle.spectral_tables.specs.Weighing.{Weighing, IsWeighing}
+use Rattle.spectral_tables.specs.Weighing.{Weighing}
 use Rattle.tristimulus.specs.Ratios.{RatioEnds, ratios_at}
 
 -- each place of a spectrum encloses that of a finer one
@@ -18,8 +18,8 @@ pub record EnclosesRatios (m : ℕ) (a b : RatioEnds) : Type 0 where
   pub y : Encloses m a.y b.y
   pub z : Encloses m a.z b.z
 
--- of the ratios, with weights of either sign
+-- of the ratios, with weights of either sign and any white
 abbrev pub RatiosEnclose : Type 0
 RatiosEnclose =
-    (n m : ℕ) (spectrum finer : List Ends) (w : Weighing) → IsWeighing w → EnclosesPlaces m spectrum finer
+    (n m : ℕ) (spectrum finer : List Ends) (w : Weighing) → EnclosesPlaces m spectrum finer
     → EnclosesRatios m (ratios_at n spectrum w) (ratios_at (m * n) finer w)

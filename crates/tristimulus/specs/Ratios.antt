@@ -1,4 +1,4 @@
--- RatioEnds ratios (ASTM E308): sums of weights times reflectances, each over the value of white.
+-- Tristimulus ratios (ASTM E308): sums of weights times reflectances, each over the value of white.
 use Rattle.std.specs.Prelude.{ℕ, pos, List, [], ◌∷◌, unsigned_abs}
 use Rattle.interval_specs.specs.Ends.{Ends}
 use Rattle.interval_specs.specs.Operations.{sum_of, multiple_of, fraction_of, cut_low_at}

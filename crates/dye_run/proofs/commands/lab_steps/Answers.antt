@@ -1,0 +1,10 @@
+use Rattle.std.proofs.Common.{refl}
+use Rattle.dye_run.specs.Answers.{shows}
+use Rattle.dye_run.specs.Colours.{lab_evaluations}
+use Rattle.dye_run.specs.Commands.{lab_answer}
+use Rattle.dye_run.proofs.commands.lab_steps.Goals as goal
+
+pub returns : goal.returns
+unfolding lab_answer
+returns c =
+    (shows (lab_evaluations c.in_ok-light.light c.in_ok-curve.curve.now), rw (c.in_ok-book.ensures, c.in_ok-light.ensures, c.in_ok-curve.ensures), record { status = refl; text = c.in_ok-text.ensures; written = refl })

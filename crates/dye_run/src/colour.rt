@@ -1,0 +1,36 @@
+ghost use Rattle.std.specs.Prelude.{◌≡◌, ◌^◌};
+ghost use Rattle.interval_specs.specs.Ends.{IsHeld};
+ghost use Rattle.dye_run.specs.Colours.{curve_difference, curve_lab, curve_ratios};
+
+use cielab_bounds::{Difference, Lab, lab};
+use cmc_bounds::{Cmc, delta};
+use fix_bounds::{Base, Iv, Ratios};
+use spectral_tables::{Curve, Weights};
+use tristimulus::ratios;
+
+/// The tristimulus ratios of a curve under a light.
+pub(crate) fn curve_ratios(light: &Weights, curve: &Curve) -> Ratios<Base>
+    ensures { record { x = result.x; y = result.y; z = result.z } ≡ curve_ratios light.now curve.now (10 ^ 12) }
+{
+    let sample = curve.spectrum();
+    // that there are as many as the curve has
+    let _ = light.waves();
+    ratios(&sample, light)
+}
+
+/// The CIELAB coordinates of a curve under a light.
+pub(crate) fn colour(light: &Weights, curve: &Curve) -> Lab<Base>
+    ensures { record { l = result.l; a = result.a; b = result.b } ≡ curve_lab light.now curve.now (10 ^ 12) }
+{
+    lab(&curve_ratios(light, curve))
+}
+
+/// The CMC(l:c) difference of a sample from a standard under a light.
+pub(crate) fn difference(rule: &Cmc, light: &Weights, standard: &Curve, sample: &Curve) -> Iv<Base>
+    ensures is { result
+        ≡ curve_difference rule.now.l10 rule.now.c10 light.now standard.now sample.now (10 ^ 12) }
+    ensures held { IsHeld result }
+{
+    let kept = rule.keep(&colour(light, standard));
+    delta(rule, &kept, &colour(light, sample))
+}
