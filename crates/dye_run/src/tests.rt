@@ -432,7 +432,7 @@ fn ks_under_faults(
 fn what_stands_after_a_fault(rt: HostRuntime) -> Result<(), Fail> {
     let alloc = rt.alloc();
     let all = every_line(alloc, "0.250000000000..0.250000000000")?;
-    let half = String::from_str(alloc, &all.as_str()[..542])?;
+    let half = String::from_str(alloc, all.as_str().get(..542).ok_or("no half")?)?;
     assert_eq!(rt; all.len(), 1085);
     let unreadable = "unreadable flat.csv\n";
     for (shelf_call, sink_call, most, status, text) in [
