@@ -66,6 +66,58 @@ impl<const UNIT: i128> Iv<UNIT> {
     fn hull(self, b: Self) -> Self {
         Iv { lo: self.lo.min(b.lo), hi: self.hi.max(b.hi) }
     }
+    fn sqrt(self) -> Self {
+        roots(self.lo * UNIT, self.hi * UNIT, sqrt)
+    }
+    fn cbrt(self) -> Self {
+        roots(self.lo * (UNIT * UNIT), self.hi * (UNIT * UNIT), cbrt)
+    }
+    fn number(root: (u128, bool)) -> Self {
+        Iv { lo: root.0 as i128, hi: 0 }
+    }
+}
+
+// The nearest f64, or the one beside it: shorter than `x as f64`, and a guess needs no more.
+fn near(x: u128) -> f64 {
+    (x >> 64) as u64 as f64 * 18_446_744_073_709_551_616.0 + x as u64 as f64
+}
+
+// The square root rounded down, and whether it is exact: for x below 2^126. `u128::isqrt` takes longer, and so does
+// `(x as f64).sqrt() as u128`.
+fn sqrt(x: u128) -> (u128, bool) {
+    let mut root = near(x).sqrt() as i64 as u128;
+    let mut square = root * root;
+    while square > x {
+        square -= 2 * root - 1;
+        root -= 1;
+    }
+    while x - square > 2 * root {
+        square += 2 * root + 1;
+        root += 1;
+    }
+    (root, square == x)
+}
+
+// The same of the cube root.
+fn cbrt(x: u128) -> (u128, bool) {
+    let mut root = near(x).cbrt() as i64 as u128;
+    let mut cube = root * root * root;
+    while cube > x {
+        cube -= 3 * root * (root - 1) + 1;
+        root -= 1;
+    }
+    while x - cube > 3 * root * (root + 1) {
+        cube += 3 * root * (root + 1) + 1;
+        root += 1;
+    }
+    (root, cube == x)
+}
+
+// The roots of two ends rounded outwards: of equal ends one root is taken.
+fn roots<const UNIT: i128>(low: i128, high: i128, root: impl Fn(u128) -> (u128, bool)) -> Iv<UNIT> {
+    let below = root(low as u128);
+    let above = if low == high { below } else { root(high as u128) };
+    Iv { lo: below.0 as i128, hi: above.0 as i128 + i128::from(!above.1) }
 }
 
 fn next(state: u64) -> u64 {
@@ -113,6 +165,10 @@ fn time<const UNIT: i128>(scale: &str, rounds: u32) {
     row!("CutLow", a, b, a.cut_low(0));
     row!("CutHigh", a, b, a.cut_high(0));
     row!("Hull", a, b, a.hull(b));
+    row!("SqrtIv", a, b, a.sqrt());
+    row!("CbrtIv", a, b, a.cbrt());
+    row!("SqrtFloor", a, b, Iv::<UNIT>::number(sqrt((a.lo * UNIT) as u128)));
+    row!("CbrtFloor", a, b, Iv::<UNIT>::number(cbrt((a.lo * (UNIT * UNIT)) as u128)));
 }
 
 fn main() {

@@ -1,6 +1,9 @@
 //! A loop for each operation. The sum of the results' ends is printed, so that no call can be left out.
+ghost use Rattle.std.specs.Prelude.{ℕ, ◌^◌, ◌≤◌};
+
 use crate::pairs::Pair;
 use fix_bounds::{Iv, Scale};
+use root_bounds::{cbrt_floor, cbrt_iv, sqrt_floor, sqrt_iv};
 
 /// The operations that are timed.
 #[derive(Clone, Copy, Debug)]
@@ -18,10 +21,14 @@ pub enum Operation {
     CutLow,
     CutHigh,
     Hull,
+    SqrtIv,
+    CbrtIv,
+    SqrtFloor,
+    CbrtFloor,
 }
 
 /// All of them, in the order of the report.
-pub const OPERATIONS: [Operation; 13] = [
+pub const OPERATIONS: [Operation; 17] = [
     Operation::Ends,
     Operation::OfRatio,
     Operation::Add,
@@ -35,6 +42,10 @@ pub const OPERATIONS: [Operation; 13] = [
     Operation::CutLow,
     Operation::CutHigh,
     Operation::Hull,
+    Operation::SqrtIv,
+    Operation::CbrtIv,
+    Operation::SqrtFloor,
+    Operation::CbrtFloor,
 ];
 
 macro_rules! rounds {
@@ -46,6 +57,20 @@ macro_rules! rounds {
                 let _ = $second;
                 let result = $call;
                 sum = sum.wrapping_add(result.lo()).wrapping_add(result.hi());
+            }
+        }
+        sum
+    }};
+}
+
+// the same of a number: the lower end of the first interval
+macro_rules! number_rounds {
+    ($pairs:ident, $rounds:ident, $low:ident, $call:expr) => {{
+        let mut sum = 0i128;
+        for _ in 0..$rounds {
+            for pair in $pairs {
+                let $low = pair.first.lo().unsigned_abs();
+                sum = sum.wrapping_add($call as i128);
             }
         }
         sum
@@ -104,6 +129,31 @@ fn hull<S: Scale>(pairs: &[Pair<S>], rounds: u32) -> i128 {
     rounds!(pairs, rounds, a, b, a.hull(b))
 }
 
+fn sqrt_interval<S: Scale>(pairs: &[Pair<S>], rounds: u32) -> i128 {
+    rounds!(pairs, rounds, a, b, sqrt_iv(a))
+}
+
+fn cbrt_interval<S: Scale>(pairs: &[Pair<S>], rounds: u32) -> i128 {
+    rounds!(pairs, rounds, a, b, cbrt_iv(a))
+}
+
+fn sqrt_number<S: Scale>(pairs: &[Pair<S>], rounds: u32) -> i128 {
+    let unit = S::UNIT.unsigned_abs();
+    number_rounds!(pairs, rounds, low, sqrt_floor(low * unit))
+}
+
+fn cbrt_number<S: Scale>(pairs: &[Pair<S>], rounds: u32) -> i128 {
+    let square = unit_squared::<S>();
+    number_rounds!(pairs, rounds, low, cbrt_floor(low * square))
+}
+
+fn unit_squared<S: Scale>() -> u128
+    ensures { result ≤ 10 ^ 24 }
+{
+    let unit = S::UNIT.unsigned_abs();
+    unit * unit
+}
+
 /// Calls one operation on each pair, `rounds` times over, and sums the ends of the results.
 pub fn run<S: Scale>(operation: Operation, pairs: &[Pair<S>], rounds: u32) -> i128 {
     match operation {
@@ -120,5 +170,9 @@ pub fn run<S: Scale>(operation: Operation, pairs: &[Pair<S>], rounds: u32) -> i1
         Operation::CutLow => cut_low(pairs, rounds),
         Operation::CutHigh => cut_high(pairs, rounds),
         Operation::Hull => hull(pairs, rounds),
+        Operation::SqrtIv => sqrt_interval(pairs, rounds),
+        Operation::CbrtIv => cbrt_interval(pairs, rounds),
+        Operation::SqrtFloor => sqrt_number(pairs, rounds),
+        Operation::CbrtFloor => cbrt_number(pairs, rounds),
     }
 }

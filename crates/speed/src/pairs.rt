@@ -1,4 +1,4 @@
-ghost use Rattle.std.specs.Prelude.{◌≡◌, ℕ, ℤ, pos, ◌^◌, ◌≤◌, ◌<ℤ◌};
+ghost use Rattle.std.specs.Prelude.{◌≡◌, ℕ, ℤ, pos, ◌*◌, ◌^◌, ◌≤◌, ◌<ℤ◌, ◌≤ℤ◌};
 ghost use Rattle.interval_specs.specs.Ranges.{UpTo};
 
 use fix_bounds::{Iv, Scale};
@@ -13,6 +13,7 @@ pub struct Pair<S: Scale> {
     pub first: Iv<S>,
     pub second: Iv<S>,
     ghost first_range: { UpTo (2 ^ 41) first },
+    ghost first_size: { first.hi ≤ℤ pos (10 * S.unit) },
     ghost second_range: { UpTo (2 ^ 41) second },
     ghost divisor: { pos 0 <ℤ second.lo },
 }
@@ -20,6 +21,7 @@ pub struct Pair<S: Scale> {
 /// An interval from the bits of `state`: its lower end between 0 and 1, and up to seven parts wide.
 fn interval<S: Scale>(state: u64) -> Iv<S>
     ensures range { UpTo (2 ^ 41) result }
+    ensures size { result.hi ≤ℤ pos (10 * S.unit) }
     ensures positive { pos 0 <ℤ result.lo }
 {
     let unit = S::UNIT as u64;
