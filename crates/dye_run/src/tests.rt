@@ -401,6 +401,12 @@ fn no_words_and_a_long_file(rt: HostRuntime) -> Result<(), Fail> {
     let (status, text) = said(&rt, alloc, &words, &[("flat.csv", long.as_slice())])?;
     assert_eq!(rt; status, 3);
     assert_eq!(rt; text.as_str(), "refused flat.csv TooLong\n");
+    let words = ["xyz", "flat.csv", "p50", "w.csv"];
+    let flat = curve_file(alloc, HEADER, FLAT, FLAT, 700)?;
+    let files = [("flat.csv", flat.as_bytes()), ("w.csv", long.as_slice())];
+    let (status, text) = said(&rt, alloc, &words, &files)?;
+    assert_eq!(rt; status, 3);
+    assert_eq!(rt; text.as_str(), "refused w.csv TooLong\n");
     Ok(())
 }
 
