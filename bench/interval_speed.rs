@@ -1,7 +1,17 @@
 // Times the same operations on the same numbers as the program `speed`, in plain Rust with no proof and the formulas
 // written straight: rustc -O -C overflow-checks=off bench/interval_speed.rs -o /tmp/plain && /tmp/plain ROUNDS
-// The sums must be those that `speed` prints.
+// The sums must be those that `speed` prints. The rows `..ByTable` take the guesses of `root_bounds` from its own files,
+// which are plain Rust too, with a test written here.
 use std::time::Instant;
+
+#[path = "../crates/root_bounds/src/near_cube.rt"]
+mod near_cube;
+#[path = "../crates/root_bounds/src/near_square.rt"]
+mod near_square;
+#[path = "../crates/root_bounds/src/tables.rt"]
+mod tables;
+#[path = "../crates/root_bounds/src/words.rt"]
+mod words;
 
 #[derive(Clone, Copy)]
 struct Iv<const UNIT: i128> {
@@ -66,11 +76,11 @@ impl<const UNIT: i128> Iv<UNIT> {
     fn hull(self, b: Self) -> Self {
         Iv { lo: self.lo.min(b.lo), hi: self.hi.max(b.hi) }
     }
-    fn sqrt(self) -> Self {
-        roots(self.lo * UNIT, self.hi * UNIT, sqrt)
+    fn sqrt(self, root: impl Fn(u128) -> (u128, bool)) -> Self {
+        roots(self.lo * UNIT, self.hi * UNIT, root)
     }
-    fn cbrt(self) -> Self {
-        roots(self.lo * (UNIT * UNIT), self.hi * (UNIT * UNIT), cbrt)
+    fn cbrt(self, root: impl Fn(u128) -> (u128, bool)) -> Self {
+        roots(self.lo * (UNIT * UNIT), self.hi * (UNIT * UNIT), root)
     }
     fn number(root: (u128, bool)) -> Self {
         Iv { lo: root.0 as i128, hi: 0 }
@@ -85,7 +95,19 @@ fn near(x: u128) -> f64 {
 // The square root rounded down, and whether it is exact: for x below 2^126. `u128::isqrt` takes longer, and so does
 // `(x as f64).sqrt() as u128`.
 fn sqrt(x: u128) -> (u128, bool) {
-    let mut root = near(x).sqrt() as i64 as u128;
+    sqrt_beside(near(x).sqrt() as i64 as u128, x)
+}
+
+fn isqrt(x: u128) -> (u128, bool) {
+    let root = x.isqrt();
+    (root, root * root == x)
+}
+
+fn sqrt_by_table(x: u128) -> (u128, bool) {
+    sqrt_beside(near_square::near_square_root(x).into(), x)
+}
+
+fn sqrt_beside(mut root: u128, x: u128) -> (u128, bool) {
     let mut square = root * root;
     while square > x {
         square -= 2 * root - 1;
@@ -100,7 +122,14 @@ fn sqrt(x: u128) -> (u128, bool) {
 
 // The same of the cube root.
 fn cbrt(x: u128) -> (u128, bool) {
-    let mut root = near(x).cbrt() as i64 as u128;
+    cbrt_beside(near(x).cbrt() as i64 as u128, x)
+}
+
+fn cbrt_by_table(x: u128) -> (u128, bool) {
+    cbrt_beside(near_cube::near_cube_root(x).into(), x)
+}
+
+fn cbrt_beside(mut root: u128, x: u128) -> (u128, bool) {
     let mut cube = root * root * root;
     while cube > x {
         cube -= 3 * root * (root - 1) + 1;
@@ -165,10 +194,16 @@ fn time<const UNIT: i128>(scale: &str, rounds: u32) {
     row!("CutLow", a, b, a.cut_low(0));
     row!("CutHigh", a, b, a.cut_high(0));
     row!("Hull", a, b, a.hull(b));
-    row!("SqrtIv", a, b, a.sqrt());
-    row!("CbrtIv", a, b, a.cbrt());
+    row!("SqrtIv", a, b, a.sqrt(sqrt));
+    row!("CbrtIv", a, b, a.cbrt(cbrt));
+    row!("SqrtIvByTable", a, b, a.sqrt(sqrt_by_table));
+    row!("CbrtIvByTable", a, b, a.cbrt(cbrt_by_table));
+    row!("SqrtIvByIsqrt", a, b, a.sqrt(isqrt));
     row!("SqrtFloor", a, b, Iv::<UNIT>::number(sqrt((a.lo * UNIT) as u128)));
     row!("CbrtFloor", a, b, Iv::<UNIT>::number(cbrt((a.lo * (UNIT * UNIT)) as u128)));
+    row!("SqrtFloorByTable", a, b, Iv::<UNIT>::number(sqrt_by_table((a.lo * UNIT) as u128)));
+    row!("CbrtFloorByTable", a, b, Iv::<UNIT>::number(cbrt_by_table((a.lo * (UNIT * UNIT)) as u128)));
+    row!("SqrtFloorByIsqrt", a, b, Iv::<UNIT>::number(isqrt((a.lo * UNIT) as u128)));
 }
 
 fn main() {

@@ -35,10 +35,11 @@ pub fn cbrt_iv<S: Scale>(x: Iv<S>) -> Iv<S>
 
 /// What a square root is taken of: an end that is not below 0, times the scale's unit.
 fn times_unit<S: Scale>(end: i128) -> u128
-    requires { unsigned_abs end ≤ 10 ^ 25 }
+    requires not_below { pos 0 ≤ℤ end }
+    requires size { unsigned_abs end ≤ 10 ^ 25 }
     ensures { result ≡ unsigned_abs end * S.unit }
 {
-    end.unsigned_abs() * S::UNIT.unsigned_abs()
+    end as u128 * S::UNIT.unsigned_abs()
 }
 
 /// What a cube root is taken of: an end that is not below 0, times the square of the scale's unit.

@@ -7,6 +7,7 @@ pub mod laws;
 mod near_cube;
 mod near_square;
 mod square;
+mod tables;
 mod words;
 
 pub use cube::{cbrt_ceil, cbrt_floor};
