@@ -1,38 +1,14 @@
--- A choice of two intervals by two tests, with the hull of both where neither test decides: what is decided at one
--- scale is decided alike at every finer one, and a hull encloses both.
-use Rattle.std.proofs.Common.{ℕ, ℤ, pos, ◌≡◌, ◌*◌, ◌<◌, ◌*ℤ◌, ◌≤ℤ◌, ◌<ℤ◌, Bool, true, false, ◌&&◌, int_le, int_lt, if◌then◌else◌, refl, sym, arith, mul-le-mul_left, add-one-le}
+-- The tests by which two forms are chosen, and ends that stay on their side of a place at every finer scale.
+use Rattle.std.proofs.Common.{ℕ, ℤ, pos, ◌≡◌, ◌*◌, ◌<◌, ◌*ℤ◌, ◌≤ℤ◌, ◌<ℤ◌, Bool, true, false, ◌&&◌, int_le, int_lt, refl, arith, mul-le-mul_left, add-one-le}
 use Rattle.std.proofs.lemmas.Int.{ints}
 use Rattle.std.proofs.lemmas.Bool.{false≢true}
-use Rattle.interval_specs.specs.Ends.{Ends}
-use Rattle.interval_specs.specs.Encloses.{Encloses}
-use Rattle.interval_specs.specs.Operations.{hull_of}
 use Rattle.interval_specs.proofs.Order.{parts, to_parts, to_parts_lt, by_parts_lt, trans_ℤ, mono_front}
-use Rattle.interval_specs.proofs.Laws.{hull_encloses, hull_first, hull_second}
-
--- the first by its test f, else the second by its test s, else their hull
-pub choice_encloses : (m : ℕ) (f s f' s' : Bool) (a b a' b' : Ends) → (f ≡ true → f' ≡ true) → (s ≡ true → (f' ≡ false) × (s' ≡ true)) → Encloses m a a' → Encloses m b b' → Encloses m (if f then a else (if s then b else hull_of a b)) (if f' then a' else (if s' then b' else hull_of a' b'))
-choice_encloses m true s true s' a b a' b' first second p q = p
-choice_encloses m true s false s' a b a' b' first second p q = absurd (false≢true (first refl))
-choice_encloses m false true true s' a b a' b' first second p q = absurd (false≢true (sym (second refl).0))
-choice_encloses m false true false true a b a' b' first second p q = q
-choice_encloses m false true false false a b a' b' first second p q = absurd (false≢true (second refl).1)
-choice_encloses m false false true s' a b a' b' first second p q = hull_first m a b a' p
-choice_encloses m false false false true a b a' b' first second p q = hull_second m a b b' q
-choice_encloses m false false false false a b a' b' first second p q = hull_encloses m a b a' b' p q
-
--- ---- tests
 
 pub le_holds : (x y : ℤ) → int_le x y ≡ true → x ≤ℤ y
 le_holds x y e = omega (arith, ints)
 
 pub lt_holds : (x y : ℤ) → int_lt x y ≡ true → x <ℤ y
 lt_holds x y e = omega (arith, ints)
-
-pub le_decides : (x y : ℤ) → x ≤ℤ y → int_le x y ≡ true
-le_decides x y h = grind (arith, ints)
-
-pub lt_decides : (x y : ℤ) → x <ℤ y → int_lt x y ≡ true
-lt_decides x y h = grind (arith, ints)
 
 pub le_refuses : (x y : ℤ) → y <ℤ x → int_le x y ≡ false
 le_refuses x y h = grind (arith, ints)

@@ -10,7 +10,8 @@ use Rattle.interval_specs.specs.Operations.{absolute_of, cut_high_at, quotient_a
 use Rattle.interval_specs.proofs.Laws.{absolute_encloses, cut_high_encloses, difference_encloses, fraction_encloses, low_not_negative, product_encloses, quotient_encloses, ratio_encloses, sum_encloses, whole_encloses}
 use Rattle.interval_specs.proofs.Order.{times_positive, trans_ℤ}
 use Rattle.cmc_specs.specs.Cmc.{along_12, along_35, cosine_size, first_form, hue_factor, hue_sum_15, hue_sum_16, hue_weight, is_inside, is_outside, second_form}
-use Rattle.cmc_specs.proofs.Choices.{both_hold, choice_encloses, le_decides, le_holds, lt_decides, lt_holds, lt_refuses, still_not_above_0}
+use Rattle.interval_specs.proofs.Decisions.{choice_encloses, le_test, lt_test}
+use Rattle.cmc_specs.proofs.Choices.{both_hold, le_holds, lt_holds, lt_refuses, still_not_above_0}
 use Rattle.cmc_specs.proofs.PartLaws.{bracket_encloses}
 use Rattle.cmc_specs.proofs.UnitRanges.{chroma_positive, cosine_size_up_to}
 
@@ -98,15 +99,15 @@ second_form_encloses n m a b c a' b' c' some finer z p q r =
 outside_stays : (m : ℕ) (p r p' r' : Ends) → 0 < m → Encloses m p p' → Encloses m r r' → is_outside p r ≡ true → is_outside p' r' ≡ true
 outside_stays m p r p' r' finer h k e =
     let both = both_hold (int_lt (pos 0) p.lo) (int_lt (pos 0) r.lo) e in
-    let first = lt_decides (pos 0) p'.lo (times_positive m p.lo p'.lo finer (lt_holds (pos 0) p.lo both.0) h.low) in
-    let second = lt_decides (pos 0) r'.lo (times_positive m r.lo r'.lo finer (lt_holds (pos 0) r.lo both.1) k.low) in
+    let first = lt_test (pos 0) p'.lo (times_positive m p.lo p'.lo finer (lt_holds (pos 0) p.lo both.0) h.low) in
+    let second = lt_test (pos 0) r'.lo (times_positive m r.lo r'.lo finer (lt_holds (pos 0) r.lo both.1) k.low) in
     hold_both (int_lt (pos 0) p'.lo) (int_lt (pos 0) r'.lo) first second
 
 -- an interval that is not above 0 is so at a finer scale: neither test is left open
 falls_short : (m : ℕ) (p p' : Ends) → Encloses m p p' → int_le p.hi (pos 0) ≡ true → (int_lt (pos 0) p'.lo ≡ false) × (int_le p'.hi (pos 0) ≡ true)
 falls_short m p p' h e =
     let o = still_not_above_0 m p.hi p'.hi h.high (le_holds p.hi (pos 0) e) in
-    (lt_refuses (pos 0) p'.lo (trans_ℤ p'.lo p'.hi (pos 0) h.ordered o), le_decides p'.hi (pos 0) o)
+    (lt_refuses (pos 0) p'.lo (trans_ℤ p'.lo p'.hi (pos 0) h.ordered o), le_test p'.hi (pos 0) o)
 
 inside_stays : (m : ℕ) (p r p' r' : Ends) → Encloses m p p' → Encloses m r r' → is_inside p r ≡ true → (is_outside p' r' ≡ false) × (is_inside p' r' ≡ true)
 inside_stays m p r p' r' h k e =
@@ -121,7 +122,7 @@ hue_factor_encloses n m a b c a' b' c' some finer z p q r =
     let h = hue_sum_15_encloses n m a b a' b' some finer p q in
     let k = hue_sum_16_encloses n m a b a' b' some finer p q in
     choice_encloses m _ _ _ _ (first_form n a b c) (second_form n a b c) (first_form (m * n) a' b' c') (second_form (m * n) a' b' c')
-    (outside_stays m _ _ _ _ finer h k) (inside_stays m _ _ _ _ h k)
+    (outside_stays m _ _ _ _ finer h k) (λ e. let both = inside_stays m _ _ _ _ h k e in (both.1, both.0))
     (first_form_encloses n m a b c a' b' c' some finer z p q r) (second_form_encloses n m a b c a' b' c' some finer z p q r)
 
 -- ---- S_H

@@ -11,7 +11,8 @@ use Rattle.interval_specs.proofs.Ranges.{cut_low_not_negative, square_not_negati
 use Rattle.interval_specs.proofs.RootRanges.{sqrt_not_negative}
 use Rattle.interval_specs.proofs.Order.{le_pos}
 use Rattle.cmc_specs.specs.Cmc.{bracket, chroma_at, chroma_gain, chroma_square, chroma_weight, fourth_power_share, high_weight, hue_share, is_dark, is_light, lightness_weight, low_weight}
-use Rattle.cmc_specs.proofs.Choices.{choice_encloses, le_decides, le_holds, le_refuses, lt_decides, lt_holds, still_below, still_from}
+use Rattle.interval_specs.proofs.Decisions.{choice_encloses, le_test, lt_test}
+use Rattle.cmc_specs.proofs.Choices.{le_holds, le_refuses, lt_holds, still_below, still_from}
 use Rattle.cmc_specs.proofs.Shares.{quotients_enclose, share_encloses, share_of}
 
 -- ---- constants
@@ -49,13 +50,13 @@ high_weight_encloses n m a a' some finer p =
 
 light_stays : (n m : ℕ) (a a' : Ends) → Encloses m a a' → is_light n a ≡ true → is_light (m * n) a' ≡ true
 light_stays n m a a' p e =
-    le_decides (pos (16 * (m * n))) a'.lo (still_from m (16 * n) (16 * (m * n)) a.lo a'.lo (omega arith) p.low (le_holds (pos (16 * n)) a.lo e))
+    le_test (pos (16 * (m * n))) a'.lo (still_from m (16 * n) (16 * (m * n)) a.lo a'.lo (omega arith) p.low (le_holds (pos (16 * n)) a.lo e))
 
-dark_stays : (n m : ℕ) (a a' : Ends) → 0 < m → Encloses m a a' → is_dark n a ≡ true → (is_light (m * n) a' ≡ false) × (is_dark (m * n) a' ≡ true)
+dark_stays : (n m : ℕ) (a a' : Ends) → 0 < m → Encloses m a a' → is_dark n a ≡ true → (is_dark (m * n) a' ≡ true) × (is_light (m * n) a' ≡ false)
 dark_stays n m a a' finer p e =
     let place = pos (16 * (m * n)) in
     let d = still_below m (16 * n) (16 * (m * n)) a.hi a'.hi finer (omega arith) p.high (lt_holds a.hi (pos (16 * n)) e) in
-    (le_refuses place a'.lo (below a'.lo a'.hi place p.ordered d), lt_decides a'.hi place d)
+    (lt_test a'.hi place d, le_refuses place a'.lo (below a'.lo a'.hi place p.ordered d))
   where
     below : (x y z : ℤ) → x ≤ℤ y → y <ℤ z → x <ℤ z
     below x y z h k = omega (arith, ints)

@@ -7,27 +7,22 @@ use Rattle.interval_specs.specs.Ranges.{Sized, UpTo}
 use Rattle.interval_specs.specs.Rounding.{floor_over, ceil_over}
 use Rattle.interval_specs.specs.Operations.{cut_low_at, difference_of, fraction_of, hull_of, product_at, ratio_at, square_at, sum_of}
 use Rattle.interval_specs.specs.Roots.{square, root_below, sqrt_at}
-use Rattle.interval_specs.proofs.Order.{parts, by_parts, le_pos, trans_ℤ}
-use Rattle.interval_specs.proofs.Rounds.{ceil_least, floor_encloses, floor_le_ceil}
+use Rattle.interval_specs.proofs.Order.{parts, by_parts, le_pos}
+use Rattle.interval_specs.proofs.Rounds.{ceil_least}
 use Rattle.interval_specs.proofs.Ranges.{floor_not_negative, sized_of_up_to, up_to_wider, ratio_up_to, fraction_up_to, square_up_to, sum_up_to, sum_sized, difference_sized, product_sized, product_up_to, cut_low_up_to, hull_up_to, sized_wider}
 use Rattle.interval_specs.proofs.Roots.{square_power, below_fits, below_greatest}
 use Rattle.interval_specs.proofs.RootRanges.{sqrt_up_to}
 use Rattle.cielab_bounds.proofs.BendLaw.{sizes_rise}
+use Rattle.cmc_specs.proofs.Shares.{quotients_in_order}
 use Rattle.cmc_specs.specs.Cmc.{along_12, along_35, bracket, chroma_at, chroma_bottom, chroma_gain, chroma_square, chroma_top, chroma_weight, cosine_size, first_form, high_weight, hue_factor, hue_sum_15, hue_sum_16, hue_weight, is_dark, is_inside, is_light, is_outside, lightness_bottom, lightness_top, lightness_weight, low_weight, second_form}
 
 -- ---- two rounded quotients of natural numbers
-
--- p / q rounded down is at most r / s rounded up, where the quotients rise
-rising : (p q r s : ℕ) → 0 < q → 0 < s → p * s ≤ r * q → floor_over (pos p) q ≤ℤ ceil_over (pos r) s
-rising p q r s some other h =
-    let f = floor_encloses 1 q s (pos p) (pos r) some other (by_parts (pos (1 * s) *ℤ pos p) (pos q *ℤ pos r) (simp parts (omega arith))) in
-    trans_ℤ (floor_over (pos p) q) (floor_over (pos r) s) (ceil_over (pos r) s) (omega (arith, ints, f)) (floor_le_ceil (pos r) (pos r) s other (omega (arith, ints)))
 
 pub up_to_ends : (p q r s k : ℕ) → 0 < q → 0 < s → p * s ≤ r * q → r ≤ k * s → UpTo k (record { lo = floor_over (pos p) q; hi = ceil_over (pos r) s })
 up_to_ends p q r s k some other h top =
     record {
       not_negative = floor_not_negative (pos p) q some (le_pos p);
-      ordered = rising p q r s some other h;
+      ordered = quotients_in_order p r q s some other (omega arith);
       below = ceil_least (pos r) (pos k) s other (by_parts (pos r) (pos k *ℤ pos s) (simp parts (omega arith)));
     }
 

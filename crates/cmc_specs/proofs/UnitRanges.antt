@@ -1,5 +1,5 @@
 -- The values of the difference that lie from 0 to 1: the share F and the size of a cosine.
-use Rattle.std.proofs.Common.{ℕ, ℤ, pos, negsuc, ◌≡◌, Bool, true, false, ◌==◌, if◌then◌else◌, ◌+◌, ◌*◌, ◌≤◌, ◌<◌, ◌*ℤ◌, ◌≤ℤ◌, ◌<ℤ◌, unsigned_abs, refl, arith, mul-le-mul_left, le_refl}
+use Rattle.std.proofs.Common.{ℕ, ℤ, pos, negsuc, ◌≡◌, Bool, true, false, ◌==◌, if◌then◌else◌, ◌+◌, ◌*◌, ◌<◌, ◌*ℤ◌, ◌≤ℤ◌, ◌<ℤ◌, unsigned_abs, refl, arith, mul-le-mul_left, le_refl}
 use Rattle.std.proofs.lemmas.Int.{ints}
 use Rattle.std.proofs.lemmas.Bool.Decides.{nat_tests}
 use Rattle.std.specs.Int.{int_min}
@@ -11,6 +11,7 @@ use Rattle.interval_specs.proofs.Rounds.{ceil_least}
 use Rattle.interval_specs.proofs.QuotientLaw.{quotients_ordered}
 use Rattle.interval_specs.proofs.Ranges.{absolute_up_to, floor_not_negative, quotient_not_negative, square_up_to}
 use Rattle.interval_specs.proofs.RootRanges.{sqrt_up_to}
+use Rattle.cielab_bounds.proofs.BendLaw.{sizes_rise}
 use Rattle.cmc_specs.specs.Cmc.{cosine_size, fourth_power_share, hue_share}
 use Rattle.cmc_specs.proofs.Shares.{quotients_in_order}
 
@@ -31,9 +32,6 @@ share_up_to n x some z o =
       ordered = quotients_in_order (t * n) (u * n) d e p q (omega arith);
       below = ceil_least (pos (u * n)) (pos n) e q (omega (arith, ints));
     }
-  where
-    sizes_rise : (x y : ℤ) → pos 0 ≤ℤ x → x ≤ℤ y → unsigned_abs x ≤ unsigned_abs y
-    sizes_rise x y p q = omega (arith, ints)
 
 pub hue_share_up_to : (n : ℕ) (p1 : Ends) → 0 < n → UpTo n (hue_share n p1)
 unfolding hue_share
