@@ -7,7 +7,7 @@ ghost use Rattle.dye_run.specs.Endings.{ReadsDue};
 ghost use Rattle.dye_run.specs.Forms as form;
 ghost use Rattle.dye_run.specs.Judging.{HaveCome, IsJudged, Stops};
 ghost use Rattle.dye_run.specs.Replies.{Replies, Says};
-ghost use Rattle.dye_run.specs.Views.{form_view, pair_form};
+ghost use Rattle.dye_run.specs.Views.{form_view, question_answer, question_asking};
 
 use crate::colour::difference;
 use crate::reading::{DueFault, due};
@@ -92,7 +92,14 @@ fn judge_ks<'a, H: Shelf>(
     }
 }
 
-// What came of a curve file and a weights file.
+// The names of a curve file and a weights file.
+#[derive(Clone, Copy)]
+struct Names<'a> {
+    curves: &'a str,
+    weights: &'a str,
+}
+
+// What came of both files.
 #[derive(Drop)]
 struct Both {
     curves: Option<Vec<u8>>,
@@ -100,21 +107,16 @@ struct Both {
 }
 
 // Reads a curve file and then a weights file, which are due whatever is made of them.
-fn read_both<'a, H: Shelf>(
-    alloc: Global,
-    shelf: &mut H,
-    curves: &'a str,
-    weights: &'a str,
-) -> Result<Both, Stop<'a>>
+fn read_both<'a, H: Shelf>(alloc: Global, shelf: &mut H, names: Names<'a>) -> Result<Both, Stop<'a>>
     ensures same { H.contents shelf.new ≡ H.contents shelf.old }
-    ensures came { IfOk result (HaveCome (H.contents shelf.old) curves.now weights.now) }
+    ensures came { IfOk result (HaveCome (H.contents shelf.old) names.entry.curves.now names.entry.weights.now) }
     ensures stopped { (judged : Option (List ℕ) → Option (List ℕ) → Answer) →
         IfErr result (Stops (H.reads_well shelf.old) (H.contents shelf.old)
-        (asks_both curves.now weights.now judged)
+        (asks_both names.entry.curves.now names.entry.weights.now judged)
         (H.read_count shelf.old) (H.read_count shelf.new)) }
 
     ensures counts { (judged : Option (List ℕ) → Option (List ℕ) → Answer) →
-        ReadsDue (H.contents shelf.old) (asks_both curves.now weights.now judged)
+        ReadsDue (H.contents shelf.old) (asks_both names.entry.curves.now names.entry.weights.now judged)
         (H.read_count shelf.old) (H.read_count shelf.new) }
     ensures other_kind { (n : List ℕ) → H.write_count shelf.new n ≡ H.write_count shelf.old n }
     ensures keeps_reading { KeepsWell (H.reads_well shelf.old) (H.reads_well shelf.new)
@@ -123,14 +125,14 @@ fn read_both<'a, H: Shelf>(
         (λ n. H.writes_well shelf.old n bytes) (λ n. H.writes_well shelf.new n bytes)
         (H.write_count shelf.old) (H.write_count shelf.new) }
 {
-    let first = match due(alloc, shelf, curves, TABLE_LIMIT) {
+    let first = match due(alloc, shelf, names.curves, TABLE_LIMIT) {
         Ok(came) => came,
-        Err(DueFault::Unreadable) => return Err(Stop::Unreadable(curves)),
+        Err(DueFault::Unreadable) => return Err(Stop::Unreadable(names.curves)),
         Err(DueFault::Memory) => return Err(Stop::Memory),
     };
-    let second = match due(alloc, shelf, weights, TABLE_LIMIT) {
+    let second = match due(alloc, shelf, names.weights, TABLE_LIMIT) {
         Ok(came) => came,
-        Err(DueFault::Unreadable) => return Err(Stop::Unreadable(weights)),
+        Err(DueFault::Unreadable) => return Err(Stop::Unreadable(names.weights)),
         Err(DueFault::Memory) => return Err(Stop::Memory),
     };
     Ok(Both {
@@ -141,175 +143,113 @@ fn read_both<'a, H: Shelf>(
 
 // The tristimulus ratios of a column, from what came of both files.
 #[tactic(auto, unfolding(crate::specs::Commands::xyz_answer))]
-fn xyz_steps(
-    alloc: Global,
-    curves: &str,
-    column: &str,
-    weights: &str,
-    curves_came: Option<&[u8]>,
-    weights_came: Option<&[u8]>,
-) -> Result<Reply, Refusal>
-    requires curves { ForSome curves_came (λ bytes. length bytes.now ≤ 1000000) }
-    requires weights { ForSome weights_came (λ bytes. length bytes.now ≤ 1000000) }
-    ensures { Replies result (xyz_answer curves.now column.now weights.now
-        (option_map (λ b. b.now) curves_came.entry) (option_map (λ b. b.now) weights_came.entry)) }
+fn xyz_steps(alloc: Global, names: Names<'_>, column: &str, came: &Both) -> Result<Reply, Refusal>
+    requires curves { ForSome came.now.curves (λ bytes. length bytes.items ≤ 1000000) }
+    requires weights { ForSome came.now.weights (λ bytes. length bytes.items ≤ 1000000) }
+    ensures { Replies result (xyz_answer names.entry.curves.now column.now names.entry.weights.now
+        (option_map (λ b. b.items) came.now.curves) (option_map (λ b. b.items) came.now.weights)) }
 {
-    let book = book_from(alloc, curves, curves_came)?;
-    let light = weights_from(alloc, weights, weights_came)?;
-    let curve = curve_from(alloc, curves, column, &book)?;
+    let book = book_from(alloc, names.curves, came.curves.as_deref())?;
+    let light = weights_from(alloc, names.weights, came.weights.as_deref())?;
+    let curve = curve_from(alloc, names.curves, column, &book)?;
     let text = xyz_text(alloc, &light, curve)?;
     Ok(Reply { status: 0, text })
 }
 
-/// `xyz`: the curve file and the weights file are due, and three ratios are the answer.
-fn judge_xyz<'a, H: Shelf>(
-    alloc: Global,
-    shelf: &mut H,
-    curves: &'a str,
-    column: &str,
-    weights: &'a str,
-) -> Result<Reply, Stop<'a>>
-    ensures same { H.contents shelf.new ≡ H.contents shelf.old }
-    ensures judged { IsJudged (H.reads_well shelf.old) (H.contents shelf.old)
-        (asking_of (form.xyz curves.now column.now weights.now))
-        (H.read_count shelf.old) (H.read_count shelf.new) result }
-
-    ensures counts { ReadsDue (H.contents shelf.old) (asking_of (form.xyz curves.now column.now weights.now))
-        (H.read_count shelf.old) (H.read_count shelf.new) }
-    ensures other_kind { (n : List ℕ) → H.write_count shelf.new n ≡ H.write_count shelf.old n }
-    ensures keeps_reading { KeepsWell (H.reads_well shelf.old) (H.reads_well shelf.new)
-        (H.read_count shelf.old) (H.read_count shelf.new) }
-    ensures keeps_writing { (bytes : ℕ) → KeepsWell
-        (λ n. H.writes_well shelf.old n bytes) (λ n. H.writes_well shelf.new n bytes)
-        (H.write_count shelf.old) (H.write_count shelf.new) }
-{
-    let came = match read_both(alloc, shelf, curves, weights) {
-        Ok(came) => came,
-        Err(stop) => return Err(stop),
-    };
-    let reply = settle(xyz_steps(
-        alloc,
-        curves,
-        column,
-        weights,
-        came.curves.as_deref(),
-        came.weights.as_deref(),
-    ));
-    match reply {
-        Ok(reply) => Ok(reply),
-        Err(AllocError) => Err(Stop::Memory),
-    }
-}
-
 // The CIELAB coordinates of a column, from what came of both files.
 #[tactic(auto, unfolding(crate::specs::Commands::lab_answer))]
-fn lab_steps(
-    alloc: Global,
-    curves: &str,
-    column: &str,
-    weights: &str,
-    curves_came: Option<&[u8]>,
-    weights_came: Option<&[u8]>,
-) -> Result<Reply, Refusal>
-    requires curves { ForSome curves_came (λ bytes. length bytes.now ≤ 1000000) }
-    requires weights { ForSome weights_came (λ bytes. length bytes.now ≤ 1000000) }
-    ensures { Replies result (lab_answer curves.now column.now weights.now
-        (option_map (λ b. b.now) curves_came.entry) (option_map (λ b. b.now) weights_came.entry)) }
+fn lab_steps(alloc: Global, names: Names<'_>, column: &str, came: &Both) -> Result<Reply, Refusal>
+    requires curves { ForSome came.now.curves (λ bytes. length bytes.items ≤ 1000000) }
+    requires weights { ForSome came.now.weights (λ bytes. length bytes.items ≤ 1000000) }
+    ensures { Replies result (lab_answer names.entry.curves.now column.now names.entry.weights.now
+        (option_map (λ b. b.items) came.now.curves) (option_map (λ b. b.items) came.now.weights)) }
 {
-    let book = book_from(alloc, curves, curves_came)?;
-    let light = weights_from(alloc, weights, weights_came)?;
-    let curve = curve_from(alloc, curves, column, &book)?;
+    let book = book_from(alloc, names.curves, came.curves.as_deref())?;
+    let light = weights_from(alloc, names.weights, came.weights.as_deref())?;
+    let curve = curve_from(alloc, names.curves, column, &book)?;
     let text = lab_text(alloc, &light, curve)?;
     Ok(Reply { status: 0, text })
-}
-
-/// `lab`: the curve file and the weights file are due, and L, a and b are the answer.
-fn judge_lab<'a, H: Shelf>(
-    alloc: Global,
-    shelf: &mut H,
-    curves: &'a str,
-    column: &str,
-    weights: &'a str,
-) -> Result<Reply, Stop<'a>>
-    ensures same { H.contents shelf.new ≡ H.contents shelf.old }
-    ensures judged { IsJudged (H.reads_well shelf.old) (H.contents shelf.old)
-        (asking_of (form.lab curves.now column.now weights.now))
-        (H.read_count shelf.old) (H.read_count shelf.new) result }
-
-    ensures counts { ReadsDue (H.contents shelf.old) (asking_of (form.lab curves.now column.now weights.now))
-        (H.read_count shelf.old) (H.read_count shelf.new) }
-    ensures other_kind { (n : List ℕ) → H.write_count shelf.new n ≡ H.write_count shelf.old n }
-    ensures keeps_reading { KeepsWell (H.reads_well shelf.old) (H.reads_well shelf.new)
-        (H.read_count shelf.old) (H.read_count shelf.new) }
-    ensures keeps_writing { (bytes : ℕ) → KeepsWell
-        (λ n. H.writes_well shelf.old n bytes) (λ n. H.writes_well shelf.new n bytes)
-        (H.write_count shelf.old) (H.write_count shelf.new) }
-{
-    let came = match read_both(alloc, shelf, curves, weights) {
-        Ok(came) => came,
-        Err(stop) => return Err(stop),
-    };
-    let reply = settle(lab_steps(
-        alloc,
-        curves,
-        column,
-        weights,
-        came.curves.as_deref(),
-        came.weights.as_deref(),
-    ));
-    match reply {
-        Ok(reply) => Ok(reply),
-        Err(AllocError) => Err(Stop::Memory),
-    }
-}
-
-// What `diff` compares.
-#[derive(Clone, Copy)]
-struct Pair<'a> {
-    curves: &'a str,
-    standard: &'a str,
-    sample: &'a str,
-    weights: &'a str,
 }
 
 // The difference of two columns, from what came of both files.
 #[tactic(auto, unfolding(crate::specs::Commands::diff_answer))]
 fn diff_steps(
     alloc: Global,
-    pair: &Pair<'_>,
+    names: Names<'_>,
+    standard: &str,
+    sample: &str,
     rule: &Cmc,
     tolerance: Option<u32>,
-    curves_came: Option<&[u8]>,
-    weights_came: Option<&[u8]>,
+    came: &Both,
 ) -> Result<Reply, Refusal>
-    requires curves { ForSome curves_came (λ bytes. length bytes.now ≤ 1000000) }
-    requires weights { ForSome weights_came (λ bytes. length bytes.now ≤ 1000000) }
-    ensures { Replies result (diff_answer pair.now.curves.now pair.now.standard.now pair.now.sample.now pair.now.weights.now
+    requires curves { ForSome came.now.curves (λ bytes. length bytes.items ≤ 1000000) }
+    requires weights { ForSome came.now.weights (λ bytes. length bytes.items ≤ 1000000) }
+    ensures { Replies result (diff_answer names.entry.curves.now standard.now sample.now names.entry.weights.now
         rule.now.l10 rule.now.c10 tolerance
-        (option_map (λ b. b.now) curves_came.entry) (option_map (λ b. b.now) weights_came.entry)) }
+        (option_map (λ b. b.items) came.now.curves) (option_map (λ b. b.items) came.now.weights)) }
 {
-    let book = book_from(alloc, pair.curves, curves_came)?;
-    let light = weights_from(alloc, pair.weights, weights_came)?;
-    let standard = curve_from(alloc, pair.curves, pair.standard, &book)?;
-    let sample = curve_from(alloc, pair.curves, pair.sample, &book)?;
-    let reply = difference_reply(alloc, tolerance, difference(rule, &light, standard, sample))?;
+    let book = book_from(alloc, names.curves, came.curves.as_deref())?;
+    let light = weights_from(alloc, names.weights, came.weights.as_deref())?;
+    let first = curve_from(alloc, names.curves, standard, &book)?;
+    let second = curve_from(alloc, names.curves, sample, &book)?;
+    let reply = difference_reply(alloc, tolerance, difference(rule, &light, first, second))?;
     Ok(reply)
 }
 
-/// `diff`: the curve file and the weights file are due, and the difference is the answer.
-fn judge_diff<'a, H: Shelf>(
+// What is asked of a curve file and a weights file.
+#[derive(Clone, Copy)]
+enum Question<'a> {
+    Xyz {
+        column: &'a str,
+    },
+    Lab {
+        column: &'a str,
+    },
+    Diff {
+        standard: &'a str,
+        sample: &'a str,
+        rule: Cmc,
+        tolerance: Option<u32>,
+    },
+}
+
+// The answer to a question, from what came of both files.
+fn both_steps(
+    alloc: Global,
+    names: Names<'_>,
+    question: Question<'_>,
+    came: &Both,
+) -> Result<Reply, Refusal>
+    requires curves { ForSome came.now.curves (λ bytes. length bytes.items ≤ 1000000) }
+    requires weights { ForSome came.now.weights (λ bytes. length bytes.items ≤ 1000000) }
+    ensures { Replies result (question_answer question.entry names.entry.curves.now names.entry.weights.now
+        (option_map (λ b. b.items) came.now.curves) (option_map (λ b. b.items) came.now.weights)) }
+{
+    match question {
+        Question::Xyz { column } => xyz_steps(alloc, names, column, came),
+        Question::Lab { column } => lab_steps(alloc, names, column, came),
+        Question::Diff {
+            standard,
+            sample,
+            rule,
+            tolerance,
+        } => diff_steps(alloc, names, standard, sample, &rule, tolerance, came),
+    }
+}
+
+/// The curve file and the weights file are due, and the question is answered.
+fn judge_both<'a, H: Shelf>(
     alloc: Global,
     shelf: &mut H,
-    pair: Pair<'a>,
-    rule: &Cmc,
-    tolerance: Option<u32>,
+    names: Names<'a>,
+    question: Question<'_>,
 ) -> Result<Reply, Stop<'a>>
     ensures same { H.contents shelf.new ≡ H.contents shelf.old }
     ensures judged { IsJudged (H.reads_well shelf.old) (H.contents shelf.old)
-        (asking_of (pair_form pair.entry rule.now tolerance))
+        (question_asking question.entry names.entry.curves.now names.entry.weights.now)
         (H.read_count shelf.old) (H.read_count shelf.new) result }
 
-    ensures counts { ReadsDue (H.contents shelf.old) (asking_of (pair_form pair.entry rule.now tolerance))
+    ensures counts { ReadsDue (H.contents shelf.old) (question_asking question.entry names.entry.curves.now names.entry.weights.now)
         (H.read_count shelf.old) (H.read_count shelf.new) }
     ensures other_kind { (n : List ℕ) → H.write_count shelf.new n ≡ H.write_count shelf.old n }
     ensures keeps_reading { KeepsWell (H.reads_well shelf.old) (H.reads_well shelf.new)
@@ -318,19 +258,11 @@ fn judge_diff<'a, H: Shelf>(
         (λ n. H.writes_well shelf.old n bytes) (λ n. H.writes_well shelf.new n bytes)
         (H.write_count shelf.old) (H.write_count shelf.new) }
 {
-    let came = match read_both(alloc, shelf, pair.curves, pair.weights) {
+    let came = match read_both(alloc, shelf, names) {
         Ok(came) => came,
         Err(stop) => return Err(stop),
     };
-    let reply = settle(diff_steps(
-        alloc,
-        &pair,
-        rule,
-        tolerance,
-        came.curves.as_deref(),
-        came.weights.as_deref(),
-    ));
-    match reply {
+    match settle(both_steps(alloc, names, question, &came)) {
         Ok(reply) => Ok(reply),
         Err(AllocError) => Err(Stop::Memory),
     }
@@ -362,12 +294,18 @@ pub(crate) fn judge<'a, H: Shelf>(
             curves,
             column,
             weights,
-        } => judge_xyz(alloc, shelf, curves, column, weights),
+        } => {
+            let names = Names { curves, weights };
+            judge_both(alloc, shelf, names, Question::Xyz { column })
+        }
         Command::Lab {
             curves,
             column,
             weights,
-        } => judge_lab(alloc, shelf, curves, column, weights),
+        } => {
+            let names = Names { curves, weights };
+            judge_both(alloc, shelf, names, Question::Lab { column })
+        }
         Command::Diff {
             curves,
             standard,
@@ -376,13 +314,14 @@ pub(crate) fn judge<'a, H: Shelf>(
             rule,
             tolerance,
         } => {
-            let pair = Pair {
-                curves,
+            let names = Names { curves, weights };
+            let question = Question::Diff {
                 standard,
                 sample,
-                weights,
+                rule,
+                tolerance,
             };
-            judge_diff(alloc, shelf, pair, &rule, tolerance)
+            judge_both(alloc, shelf, names, question)
         }
     }
 }

@@ -1,4 +1,4 @@
-use Rattle.std.proofs.Common.{refl}
+use Rattle.std.proofs.Common.{refl, sym}
 use Rattle.dye_run.specs.Answers.{shows}
 use Rattle.dye_run.specs.Colours.{lab_evaluations}
 use Rattle.dye_run.specs.Commands.{lab_answer}
@@ -7,4 +7,4 @@ use Rattle.dye_run.proofs.commands.lab_steps.Goals as goal
 pub returns : goal.returns
 unfolding lab_answer
 returns c =
-    (shows (lab_evaluations c.in_ok-light.light c.in_ok-curve.curve.now), rw (c.in_ok-book.ensures, c.in_ok-light.ensures, c.in_ok-curve.ensures), record { status = refl; text = c.in_ok-text.ensures; written = refl })
+    (shows (lab_evaluations c.in_ok-light.light c.in_ok-curve.curve.now), rw (sym c.as_deref.ensures.value, sym c.as_deref-2.ensures.value, c.in_ok-book.ensures, c.in_ok-light.ensures, c.in_ok-curve.ensures), record { status = refl; text = c.in_ok-text.ensures; written = refl })
