@@ -82,8 +82,8 @@ impl<const UNIT: i128> Iv<UNIT> {
     fn cbrt(self, root: impl Fn(u128) -> (u128, bool)) -> Self {
         roots(self.lo * (UNIT * UNIT), self.hi * (UNIT * UNIT), root)
     }
-    fn number(root: (u128, bool)) -> Self {
-        Iv { lo: root.0 as i128, hi: 0 }
+    fn number(root: u128) -> Self {
+        Iv { lo: root as i128, hi: 0 }
     }
 }
 
@@ -142,11 +142,20 @@ fn cbrt_beside(mut root: u128, x: u128) -> (u128, bool) {
     (root, cube == x)
 }
 
+// A root rounded down, and one rounded up.
+fn down(root: (u128, bool)) -> u128 {
+    root.0
+}
+
+fn up(root: (u128, bool)) -> u128 {
+    root.0 + u128::from(!root.1)
+}
+
 // The roots of two ends rounded outwards: of equal ends one root is taken.
 fn roots<const UNIT: i128>(low: i128, high: i128, root: impl Fn(u128) -> (u128, bool)) -> Iv<UNIT> {
     let below = root(low as u128);
     let above = if low == high { below } else { root(high as u128) };
-    Iv { lo: below.0 as i128, hi: above.0 as i128 + i128::from(!above.1) }
+    Iv { lo: down(below) as i128, hi: up(above) as i128 }
 }
 
 fn next(state: u64) -> u64 {
@@ -199,11 +208,19 @@ fn time<const UNIT: i128>(scale: &str, rounds: u32) {
     row!("SqrtIvByTable", a, b, a.sqrt(sqrt_by_table));
     row!("CbrtIvByTable", a, b, a.cbrt(cbrt_by_table));
     row!("SqrtIvByIsqrt", a, b, a.sqrt(isqrt));
-    row!("SqrtFloor", a, b, Iv::<UNIT>::number(sqrt((a.lo * UNIT) as u128)));
-    row!("CbrtFloor", a, b, Iv::<UNIT>::number(cbrt((a.lo * (UNIT * UNIT)) as u128)));
-    row!("SqrtFloorByTable", a, b, Iv::<UNIT>::number(sqrt_by_table((a.lo * UNIT) as u128)));
-    row!("CbrtFloorByTable", a, b, Iv::<UNIT>::number(cbrt_by_table((a.lo * (UNIT * UNIT)) as u128)));
-    row!("SqrtFloorByIsqrt", a, b, Iv::<UNIT>::number(isqrt((a.lo * UNIT) as u128)));
+    macro_rules! number_rows {
+        ($floor:expr, $ceil:expr, $root:expr, $radicand:expr) => {
+            row!($floor, a, b, Iv::<UNIT>::number(down($root($radicand(a)))));
+            row!($ceil, a, b, Iv::<UNIT>::number(up($root($radicand(a)))));
+        };
+    }
+    let times_unit = |a: Iv<UNIT>| (a.lo * UNIT) as u128;
+    let times_square = |a: Iv<UNIT>| (a.lo * (UNIT * UNIT)) as u128;
+    number_rows!("SqrtFloor", "SqrtCeil", sqrt, times_unit);
+    number_rows!("CbrtFloor", "CbrtCeil", cbrt, times_square);
+    number_rows!("SqrtFloorByTable", "SqrtCeilByTable", sqrt_by_table, times_unit);
+    number_rows!("CbrtFloorByTable", "CbrtCeilByTable", cbrt_by_table, times_square);
+    number_rows!("SqrtFloorByIsqrt", "SqrtCeilByIsqrt", isqrt, times_unit);
 }
 
 fn main() {

@@ -3,7 +3,7 @@ ghost use Rattle.std.specs.Prelude.{ℕ, ◌^◌, ◌≤◌};
 
 use crate::pairs::Pair;
 use fix_bounds::{Iv, Scale};
-use root_bounds::{cbrt_floor, cbrt_iv, sqrt_floor, sqrt_iv};
+use root_bounds::{cbrt_ceil, cbrt_floor, cbrt_iv, sqrt_ceil, sqrt_floor, sqrt_iv};
 
 /// The operations that are timed.
 #[derive(Clone, Copy, Debug)]
@@ -24,11 +24,13 @@ pub enum Operation {
     SqrtIv,
     CbrtIv,
     SqrtFloor,
+    SqrtCeil,
     CbrtFloor,
+    CbrtCeil,
 }
 
 /// All of them, in the order of the report.
-pub const OPERATIONS: [Operation; 17] = [
+pub const OPERATIONS: [Operation; 19] = [
     Operation::Ends,
     Operation::OfRatio,
     Operation::Add,
@@ -45,7 +47,9 @@ pub const OPERATIONS: [Operation; 17] = [
     Operation::SqrtIv,
     Operation::CbrtIv,
     Operation::SqrtFloor,
+    Operation::SqrtCeil,
     Operation::CbrtFloor,
+    Operation::CbrtCeil,
 ];
 
 macro_rules! rounds {
@@ -137,14 +141,24 @@ fn cbrt_interval<S: Scale>(pairs: &[Pair<S>], rounds: u32) -> i128 {
     rounds!(pairs, rounds, a, b, cbrt_iv(a))
 }
 
-fn sqrt_number<S: Scale>(pairs: &[Pair<S>], rounds: u32) -> i128 {
+fn sqrt_down<S: Scale>(pairs: &[Pair<S>], rounds: u32) -> i128 {
     let unit = S::UNIT.unsigned_abs();
     number_rounds!(pairs, rounds, low, sqrt_floor(low * unit))
 }
 
-fn cbrt_number<S: Scale>(pairs: &[Pair<S>], rounds: u32) -> i128 {
+fn sqrt_up<S: Scale>(pairs: &[Pair<S>], rounds: u32) -> i128 {
+    let unit = S::UNIT.unsigned_abs();
+    number_rounds!(pairs, rounds, low, sqrt_ceil(low * unit))
+}
+
+fn cbrt_down<S: Scale>(pairs: &[Pair<S>], rounds: u32) -> i128 {
     let square = unit_squared::<S>();
     number_rounds!(pairs, rounds, low, cbrt_floor(low * square))
+}
+
+fn cbrt_up<S: Scale>(pairs: &[Pair<S>], rounds: u32) -> i128 {
+    let square = unit_squared::<S>();
+    number_rounds!(pairs, rounds, low, cbrt_ceil(low * square))
 }
 
 fn unit_squared<S: Scale>() -> u128
@@ -172,7 +186,9 @@ pub fn run<S: Scale>(operation: Operation, pairs: &[Pair<S>], rounds: u32) -> i1
         Operation::Hull => hull(pairs, rounds),
         Operation::SqrtIv => sqrt_interval(pairs, rounds),
         Operation::CbrtIv => cbrt_interval(pairs, rounds),
-        Operation::SqrtFloor => sqrt_number(pairs, rounds),
-        Operation::CbrtFloor => cbrt_number(pairs, rounds),
+        Operation::SqrtFloor => sqrt_down(pairs, rounds),
+        Operation::SqrtCeil => sqrt_up(pairs, rounds),
+        Operation::CbrtFloor => cbrt_down(pairs, rounds),
+        Operation::CbrtCeil => cbrt_up(pairs, rounds),
     }
 }
