@@ -36,19 +36,22 @@ fn polynomial(power: impl Fn(f64) -> f64, k: u32, terms: usize) -> Vec<f64> {
 /// A number with its digits in threes.
 fn grouped(number: u64) -> String {
     let digits = number.to_string();
-    let threes: Vec<&str> = digits.as_bytes().rchunks(3).rev().map(|three| std::str::from_utf8(three).unwrap()).collect();
-    threes.join("_")
+    let first = (digits.len() - 1) % 3 + 1;
+    let rest = digits.as_bytes()[first..].chunks(3).map(String::from_utf8_lossy);
+    rest.fold(digits[..first].to_string(), |sum, three| sum + "_" + &three)
 }
 
-/// Rows of whole numbers: the coefficients, all positive, the first times 2^31 and lowered by the errors of rounding, each
-/// further one times 2^8 less, since it is multiplied by a distance of 24 bits and shifted right.
-fn table(root: f64, first: u32, terms: usize, scales: &[i32]) {
+/// What the first coefficient is lowered by for the rounding of all.
+const ROUNDING: u64 = 6;
+
+/// The rows from `first`/256 to 1: the sizes of the coefficients, times these powers of two, with which each fits 32 bits.
+fn table(root: f64, first: u32, terms: usize, powers: &[i32]) {
     for k in first..256 {
         let row: Vec<String> = polynomial(|v| v.powf(-1.0 / root), k, terms)
             .iter()
-            .zip(scales)
+            .zip(powers)
             .enumerate()
-            .map(|(i, (c, &scale))| (c.abs() * 2f64.powi(scale)) as u64 - if i == 0 { 6 } else { 0 })
+            .map(|(i, (c, &power))| (c.abs() * 2f64.powi(power)) as u64 - if i == 0 { ROUNDING } else { 0 })
             .map(grouped)
             .collect();
         println!("[{}],", row.join(", "));
