@@ -1,4 +1,4 @@
-ghost use Rattle.std.specs.Prelude.{ℕ, ◌<◌, ◌≤◌};
+ghost use Rattle.std.specs.Prelude.{◌≡◌, ⊤, ℕ, ◌<◌, ◌≤◌};
 
 use std::alloc::AllocError;
 
@@ -14,6 +14,10 @@ pub struct Cmc {
 }
 
 impl Clone for Cmc {
+    ghost is_clone = { λ rule copy. copy ≡ rule };
+
+    ghost is_infallible = { λ _. ⊤ };
+
     fn clone(&self) -> Result<Self, AllocError> {
         Ok(*self)
     }

@@ -1,4 +1,4 @@
-ghost use Rattle.std.specs.Prelude.{◌≡◌, ℕ, ◌*◌};
+ghost use Rattle.std.specs.Prelude.{◌≡◌, ⊤, ℕ, ◌*◌};
 ghost use Rattle.interval_specs.specs.Ranges.{Sized, UpTo};
 ghost use Rattle.cmc_specs.specs.AtLeast.{AtLeast};
 
@@ -28,6 +28,10 @@ pub struct Standard<S: Scale> {
 }
 
 impl<S: Scale> Clone for Standard<S> {
+    ghost is_clone = { λ standard copy. copy ≡ standard };
+
+    ghost is_infallible = { λ _. ⊤ };
+
     fn clone(&self) -> Result<Self, AllocError> {
         Ok(*self)
     }
