@@ -1,7 +1,7 @@
-pub mod Parts
-pub mod BendLaw
 pub mod LabLaw
 pub mod LabRanges
-pub mod FEnds
-pub mod LabCalls
-pub mod Colours
+mod Parts
+mod FLaw
+mod FEnds
+mod LabCalls
+mod Colours

@@ -2,16 +2,16 @@
 -- within the coarse one.
 use Rattle.std.specs.Prelude.{ℕ, ◌*◌, ◌^◌, ◌<◌, ◌≤◌}
 use Rattle.interval_specs.specs.Ends.{Ends}
-use Rattle.interval_specs.specs.Ranges.{Sized}
+use Rattle.interval_specs.specs.Ranges.{MagnitudeUpTo}
 use Rattle.interval_specs.specs.Encloses.{Encloses}
 use Rattle.cielab_bounds.specs.Cielab.{LabEnds}
 use Rattle.cielab_bounds.specs.Laws.{EnclosesLab}
 
 -- a colour at scale n: no coordinate is larger than 1000
 pub record IsColour (n : ℕ) (p : LabEnds) : Type 0 where
-  pub l : Sized (1000 * n) p.l
-  pub a : Sized (1000 * n) p.a
-  pub b : Sized (1000 * n) p.b
+  pub l : MagnitudeUpTo (1000 * n) p.l
+  pub a : MagnitudeUpTo (1000 * n) p.a
+  pub b : MagnitudeUpTo (1000 * n) p.b
 
 -- the value of a standard and a sample, in this order, keeps enclosing where the scale grows from n to m * n and the
 -- colours narrow

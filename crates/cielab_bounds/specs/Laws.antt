@@ -2,6 +2,7 @@
 use Rattle.std.specs.Prelude.{ℕ, pos, ◌*◌, ◌<◌, ◌≤ℤ◌}
 use Rattle.interval_specs.specs.Ends.{Ends}
 use Rattle.interval_specs.specs.Encloses.{Encloses}
+use Rattle.fix_bounds.specs.Ratios.{RatioEnds, EnclosesRatios}
 use Rattle.cielab_bounds.specs.Cielab.{f_at, LabEnds, lab_at}
 
 -- each coordinate encloses the finer one
@@ -15,5 +16,5 @@ FEncloses = (n m : ℕ) (t t' : Ends) → 0 < m → pos 0 ≤ℤ t.lo → Enclos
 
 abbrev pub LabEncloses : Type 0
 LabEncloses =
-    (n m : ℕ) (x y z x' y' z' : Ends) → 0 < m → pos 0 ≤ℤ x.lo → pos 0 ≤ℤ y.lo → pos 0 ≤ℤ z.lo
-    → Encloses m x x' → Encloses m y y' → Encloses m z z' → EnclosesLab m (lab_at n x y z) (lab_at (m * n) x' y' z')
+    (n m : ℕ) (r r' : RatioEnds) → 0 < m → pos 0 ≤ℤ r.x.lo → pos 0 ≤ℤ r.y.lo → pos 0 ≤ℤ r.z.lo
+    → EnclosesRatios m r r' → EnclosesLab m (lab_at n r) (lab_at (m * n) r')

@@ -1,3 +1,4 @@
 pub mod Cielab
 pub mod Laws
 pub mod Formula
+pub mod Lab

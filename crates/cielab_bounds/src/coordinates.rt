@@ -1,5 +1,5 @@
 ghost use Rattle.std.specs.Prelude.{◌≡◌, ℕ, ◌*◌, ⊤};
-ghost use Rattle.interval_specs.specs.Ranges.{Sized};
+ghost use Rattle.interval_specs.specs.Ranges.{MagnitudeUpTo};
 
 use fix_bounds::{Iv, Scale};
 use std::alloc::AllocError;
@@ -10,9 +10,9 @@ pub struct Lab<S: Scale> {
     pub l: Iv<S>,
     pub a: Iv<S>,
     pub b: Iv<S>,
-    pub ghost l_range: { Sized (1000 * S.unit) l },
-    pub ghost a_range: { Sized (1000 * S.unit) a },
-    pub ghost b_range: { Sized (1000 * S.unit) b },
+    pub ghost l_range: { MagnitudeUpTo (1000 * S.unit) l },
+    pub ghost a_range: { MagnitudeUpTo (1000 * S.unit) a },
+    pub ghost b_range: { MagnitudeUpTo (1000 * S.unit) b },
 }
 
 impl<S: Scale> Clone for Lab<S> {

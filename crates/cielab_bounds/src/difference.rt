@@ -1,6 +1,7 @@
 ghost use Rattle.std.specs.Prelude.{◌≡◌, ℕ};
 ghost use Rattle.interval_specs.specs.Ends.{Ends, IsHeld};
 ghost use Rattle.cielab_bounds.specs.Cielab.{LabEnds};
+ghost use Rattle.cielab_bounds.specs.Lab.{lab_ends};
 ghost use Rattle.cielab_bounds.specs.Formula.{KeepsEnclosing};
 
 use crate::coordinates::Lab;
@@ -24,11 +25,12 @@ pub trait Difference<S: Scale>: Formula {
 
     /// What is kept of a standard, for the differences of many samples from it.
     fn keep(&self, standard: &Lab<S>) -> Self::Kept
-        ensures { stands_for self.now result (record { l = standard.now.l; a = standard.now.a; b = standard.now.b }) };
+        ensures { stands_for self.now result (lab_ends standard.now) };
 
     /// The difference of a sample from the standard that `kept` stands for.
     fn delta(&self, kept: &Self::Kept, sample: &Lab<S>) -> Iv<S>
-        requires { (p : LabEnds) × stands_for self.now kept.now p }
-        ensures is { (p : LabEnds) → stands_for self.now kept.now p → result ≡ Self.value self.now S.unit p (record { l = sample.now.l; a = sample.now.a; b = sample.now.b }) }
+        requires { ∥ ((p : LabEnds) × stands_for self.now kept.now p) ∥₁ }
+        ensures is { (p : LabEnds) → stands_for self.now kept.now p
+            → result ≡ Self.value self.now S.unit p (lab_ends sample.now) }
         ensures held { IsHeld result };
 }

@@ -3,13 +3,15 @@ ghost use Rattle.std.specs.Prelude.{◌≡◌, ℕ, ◌*◌, ◌<◌};
 ghost use Rattle.interval_specs.specs.Encloses.{Encloses};
 ghost use Rattle.cielab_bounds.specs.Cielab.{LabEnds};
 ghost use Rattle.cielab_bounds.specs.Formula.{IsColour};
+ghost use Rattle.cielab_bounds.specs.Lab.{lab_ends};
 ghost use Rattle.cielab_bounds.specs.Laws.{EnclosesLab, FEncloses, LabEncloses};
 
 use crate::coordinates::Lab;
 use crate::difference::Difference;
 use fix_bounds::{Iv, Scale};
 
-/// The law of [`f_iv`](crate::f_iv): each end may stand on either part of f, at the coarse scale and at the fine one.
+/// The law of [`f_iv`](crate::f_iv): each end may stand on either part of f, at the coarse scale
+/// and at the fine one.
 pub fn f_iv()
     ensures { FEncloses }
 {}
@@ -19,13 +21,14 @@ pub fn lab()
     ensures { LabEncloses }
 {}
 
-/// The law of every [`Difference`]: what it gives encloses its own value at each finer scale, of each standard and
-/// sample that lie within these.
+/// The law of every [`Difference`]: what it gives encloses its own value at each finer scale, of
+/// each standard and sample that lie within these.
 pub fn difference<S: Scale, D: Difference<S>>(rule: &D, standard: &Lab<S>, sample: &Lab<S>) -> Iv<S>
-    ensures is { result ≡ D.value rule.now S.unit (record { l = standard.now.l; a = standard.now.a; b = standard.now.b }) (record { l = sample.now.l; a = sample.now.a; b = sample.now.b }) }
-    ensures finer { (m : ℕ) (p q : LabEnds) → 0 < m → IsColour (m * S.unit) p → IsColour (m * S.unit) q
-        → EnclosesLab m (record { l = standard.now.l; a = standard.now.a; b = standard.now.b }) p
-        → EnclosesLab m (record { l = sample.now.l; a = sample.now.a; b = sample.now.b }) q
+    ensures is { result
+        ≡ D.value rule.now S.unit (lab_ends standard.now) (lab_ends sample.now) }
+    ensures finer { (m : ℕ) (p q : LabEnds) → 0 < m
+        → IsColour (m * S.unit) p → IsColour (m * S.unit) q
+        → EnclosesLab m (lab_ends standard.now) p → EnclosesLab m (lab_ends sample.now) q
         → Encloses m result (D.value rule.now (m * S.unit) p q) }
 {
     let kept = rule.keep(standard);

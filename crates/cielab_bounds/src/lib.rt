@@ -1,16 +1,13 @@
 //! CIELAB coordinates as intervals, from tristimulus ratios (CIE 15).
 #![tactic(auto)]
 
-mod bend;
 mod conversion;
 mod coordinates;
 mod difference;
+mod lab_f;
 pub mod laws;
 
-pub use bend::f_iv;
 pub use conversion::lab;
 pub use coordinates::Lab;
 pub use difference::{Difference, Formula};
-
-#[cfg(test)]
-mod tests;
+pub use lab_f::f_iv;

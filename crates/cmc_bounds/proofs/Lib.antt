@@ -1,6 +1,6 @@
-pub mod Calls
-pub mod Outward
-pub mod Chosen
-pub mod HueCalls
-pub mod AngleCalls
-pub mod TermCalls
+mod Calls
+mod Outward
+mod Chosen
+mod HueCalls
+mod AngleCalls
+mod TermCalls

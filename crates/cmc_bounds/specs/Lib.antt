@@ -1,1 +1,3 @@
 pub mod Chroma
+pub mod Standard
+pub mod Quotients

@@ -1,28 +1,28 @@
 //! Cosines and sines of the angles that the formula of T names.
 ghost use Rattle.std.specs.Prelude.{◌≡◌, ℕ, ◌*◌, ◌^◌, ◌<◌};
 ghost use Rattle.interval_specs.specs.Ends.{IsHeld};
-ghost use Rattle.interval_specs.specs.Ranges.{Sized, UpTo};
+ghost use Rattle.interval_specs.specs.Ranges.{MagnitudeUpTo, UpTo};
 ghost use Rattle.interval_specs.specs.Operations.{difference_of, product_at, sum_of};
 ghost use Rattle.cmc_specs.specs.Cmc.{along_35, bracket};
 
 use fix_bounds::{Iv, Scale};
 
 // each lies from its number to the next one, in millionths of millionths
-pub const COS_35: u64 = 819_152_044_288;
+pub(crate) const COS_35: u64 = 819_152_044_288;
 
-pub const SIN_35: u64 = 573_576_436_351;
+pub(crate) const SIN_35: u64 = 573_576_436_351;
 
-pub const COS_12: u64 = 978_147_600_733;
+pub(crate) const COS_12: u64 = 978_147_600_733;
 
-pub const SIN_12: u64 = 207_911_690_817;
+pub(crate) const SIN_12: u64 = 207_911_690_817;
 
-pub const COS_15: u64 = 965_925_826_289;
+pub(crate) const COS_15: u64 = 965_925_826_289;
 
-pub const SIN_15: u64 = 258_819_045_102;
+pub(crate) const SIN_15: u64 = 258_819_045_102;
 
-pub const COS_16: u64 = 961_261_695_938;
+pub(crate) const COS_16: u64 = 961_261_695_938;
 
-pub const SIN_16: u64 = 275_637_355_816;
+pub(crate) const SIN_16: u64 = 275_637_355_816;
 
 /// The bracket of a constant that lies from `low` to `low + 1` millionths of millionths.
 fn bracket<S: Scale>(low: u64) -> Iv<S>
@@ -36,25 +36,27 @@ fn bracket<S: Scale>(low: u64) -> Iv<S>
 }
 
 /// `a` times a cosine and `b` times a sine, added.
-pub fn turned<S: Scale>(a: Iv<S>, cos: u64, b: Iv<S>, sin: u64) -> Iv<S>
-    requires a { Sized (1000 * S.unit) a }
-    requires b { Sized (1000 * S.unit) b }
+pub(crate) fn turned<S: Scale>(a: Iv<S>, cos: u64, b: Iv<S>, sin: u64) -> Iv<S>
+    requires a { MagnitudeUpTo (1000 * S.unit) a }
+    requires b { MagnitudeUpTo (1000 * S.unit) b }
     requires cos { cos < 10 ^ 12 }
     requires sin { sin < 10 ^ 12 }
-    ensures is { result ≡ sum_of (product_at S.unit a (bracket S.unit cos)) (product_at S.unit b (bracket S.unit sin)) }
-    ensures range { Sized (2000 * S.unit) result }
+    ensures is { result
+        ≡ sum_of (product_at S.unit a (bracket S.unit cos))
+        (product_at S.unit b (bracket S.unit sin)) }
+    ensures range { MagnitudeUpTo (2000 * S.unit) result }
 {
     let first = a.mul(bracket(cos));
     let second = b.mul(bracket(sin));
     first.add(second)
 }
 
-/// The cosine of the hue and 35 degrees, times the chroma.
-pub fn along_35<S: Scale>(a: Iv<S>, b: Iv<S>) -> Iv<S>
-    requires a { Sized (1000 * S.unit) a }
-    requires b { Sized (1000 * S.unit) b }
+/// C1 cos(h1 + 35 degrees).
+pub(crate) fn along_35<S: Scale>(a: Iv<S>, b: Iv<S>) -> Iv<S>
+    requires a { MagnitudeUpTo (1000 * S.unit) a }
+    requires b { MagnitudeUpTo (1000 * S.unit) b }
     ensures is { result ≡ along_35 S.unit a b }
-    ensures range { Sized (2000 * S.unit) result }
+    ensures range { MagnitudeUpTo (2000 * S.unit) result }
 {
     let first = a.mul(bracket(COS_35));
     let second = b.mul(bracket(SIN_35));

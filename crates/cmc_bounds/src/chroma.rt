@@ -1,21 +1,21 @@
 ghost use Rattle.std.specs.Prelude.{◌≡◌, ℕ, ◌+◌, ◌*◌, ◌^◌, ◌≤◌, unsigned_abs};
 ghost use Rattle.interval_specs.specs.Ends.{IsHeld};
-ghost use Rattle.interval_specs.specs.Ranges.{Sized, UpTo};
-ghost use Rattle.cmc_specs.specs.AtLeast.{AtLeast};
-ghost use Rattle.cmc_specs.specs.Cmc.{chroma_at, chroma_bottom, chroma_gain, chroma_square, chroma_top, chroma_weight, fourth_power_share, hue_share};
+ghost use Rattle.interval_specs.specs.Ranges.{MagnitudeUpTo, UpTo, AtLeast};
+ghost use Rattle.cmc_specs.specs.Cmc.{chroma_at, chroma_denominator, chroma_gain, chroma_square, chroma_numerator, chroma_weight, fourth_power_share, hue_share};
 ghost use Rattle.cmc_bounds.specs.Chroma.{IsChroma};
 
-use crate::quotient::{Quotient, outward, times_unit, unit};
-use fix_bounds::{Iv, Scale};
+use crate::quotient::{Quotient, outward, times_unit};
+use fix_bounds::{Iv, Scale, unit};
 use root_bounds::sqrt_iv;
 
 /// The sum of the squares of two opponent coordinates, or of two differences of them.
-pub fn chroma_square<S: Scale>(a: Iv<S>, b: Iv<S>) -> Iv<S>
-    requires a { Sized (2000 * S.unit) a }
-    requires b { Sized (2000 * S.unit) b }
+pub(crate) fn chroma_square<S: Scale>(a: Iv<S>, b: Iv<S>) -> Iv<S>
+    requires a { MagnitudeUpTo (2000 * S.unit) a }
+    requires b { MagnitudeUpTo (2000 * S.unit) b }
     ensures is { result ≡ chroma_square S.unit a b }
     ensures range { UpTo (8 * 10 ^ 6 * S.unit) result }
-    ensures narrow { Sized (1000 * S.unit) a → Sized (1000 * S.unit) b → UpTo (2 * 10 ^ 6 * S.unit) result }
+    ensures narrow { MagnitudeUpTo (1000 * S.unit) a → MagnitudeUpTo (1000 * S.unit) b
+        → UpTo (2 * 10 ^ 6 * S.unit) result }
 {
     let first = a.square();
     let second = b.square();
@@ -23,9 +23,9 @@ pub fn chroma_square<S: Scale>(a: Iv<S>, b: Iv<S>) -> Iv<S>
 }
 
 /// The chroma.
-pub fn chroma<S: Scale>(a: Iv<S>, b: Iv<S>) -> Iv<S>
-    requires a { Sized (1000 * S.unit) a }
-    requires b { Sized (1000 * S.unit) b }
+pub(crate) fn chroma<S: Scale>(a: Iv<S>, b: Iv<S>) -> Iv<S>
+    requires a { MagnitudeUpTo (1000 * S.unit) a }
+    requires b { MagnitudeUpTo (1000 * S.unit) b }
     ensures is { result ≡ chroma_at S.unit a b }
     ensures range { IsChroma S.unit result }
 {
@@ -35,13 +35,13 @@ pub fn chroma<S: Scale>(a: Iv<S>, b: Iv<S>) -> Iv<S>
 /// What S_C gains at an end of the chroma.
 fn gain_at<S: Scale>(t: i128) -> Quotient
     requires { unsigned_abs t ≤ 1415 * S.unit }
-    ensures top { result.top ≡ chroma_top S.unit (unsigned_abs t) }
-    ensures bottom { result.bottom ≡ chroma_bottom S.unit (unsigned_abs t) }
+    ensures numerator { result.numerator ≡ chroma_numerator S.unit (unsigned_abs t) }
+    ensures denominator { result.denominator ≡ chroma_denominator S.unit (unsigned_abs t) }
 {
-    let size = t.unsigned_abs();
+    let magnitude = t.unsigned_abs();
     Quotient {
-        top: times_unit::<S>(638 * size),
-        bottom: 10_000 * unit::<S>() + 131 * size,
+        numerator: times_unit::<S>(638 * magnitude),
+        denominator: 10_000 * u128::from(unit::<S>()) + 131 * magnitude,
     }
 }
 
@@ -57,7 +57,7 @@ fn chroma_gain<S: Scale>(c1: Iv<S>) -> Iv<S>
 }
 
 /// S_C.
-pub fn chroma_weight<S: Scale>(c1: Iv<S>) -> Iv<S>
+pub(crate) fn chroma_weight<S: Scale>(c1: Iv<S>) -> Iv<S>
     requires { UpTo (1415 * S.unit) c1 }
     ensures is { result ≡ chroma_weight S.unit c1 }
     ensures range { UpTo (6 * S.unit) result }
@@ -70,13 +70,13 @@ pub fn chroma_weight<S: Scale>(c1: Iv<S>) -> Iv<S>
 /// The share of a fourth power at one of its ends.
 fn share_at<S: Scale>(x: i128) -> Quotient
     requires { unsigned_abs x ≤ 4 * 10 ^ 12 * S.unit }
-    ensures top { result.top ≡ unsigned_abs x * S.unit }
-    ensures bottom { result.bottom ≡ unsigned_abs x + 1900 * S.unit }
+    ensures numerator { result.numerator ≡ unsigned_abs x * S.unit }
+    ensures denominator { result.denominator ≡ unsigned_abs x + 1900 * S.unit }
 {
-    let size = x.unsigned_abs();
+    let magnitude = x.unsigned_abs();
     Quotient {
-        top: times_unit::<S>(size),
-        bottom: size + 1900 * unit::<S>(),
+        numerator: times_unit::<S>(magnitude),
+        denominator: magnitude + 1900 * u128::from(unit::<S>()),
     }
 }
 
@@ -92,7 +92,7 @@ fn fourth_power_share<S: Scale>(x: Iv<S>) -> Iv<S>
 }
 
 /// F, from the square of the chroma.
-pub fn hue_share<S: Scale>(p1: Iv<S>) -> Iv<S>
+pub(crate) fn hue_share<S: Scale>(p1: Iv<S>) -> Iv<S>
     requires { UpTo (2 * 10 ^ 6 * S.unit) p1 }
     ensures is { result ≡ hue_share S.unit p1 }
     ensures range { UpTo S.unit result }

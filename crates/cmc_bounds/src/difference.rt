@@ -1,9 +1,10 @@
 ghost use Rattle.std.specs.Prelude.{◌≡◌, ℕ, ℤ, pos, ◌*◌, ◌^◌, ◌<◌, ◌≤◌};
 ghost use Rattle.interval_specs.specs.Ends.{IsHeld};
-ghost use Rattle.interval_specs.specs.Ranges.{Sized, UpTo};
+ghost use Rattle.interval_specs.specs.Ranges.{MagnitudeUpTo, UpTo, AtLeast};
 ghost use Rattle.interval_specs.specs.Operations.{cut_low_at, difference_of, fraction_of, quotient_at, square_at, sum_of};
 ghost use Rattle.interval_specs.specs.Roots.{sqrt_at};
-ghost use Rattle.cmc_specs.specs.AtLeast.{AtLeast};
+ghost use Rattle.cielab_bounds.specs.Lab.{lab_ends};
+ghost use Rattle.cmc_bounds.specs.Standard.{standard_ends};
 ghost use Rattle.cmc_specs.specs.Cmc.{chroma_at, chroma_square, kept_difference, standard_at};
 
 use crate::chroma::{chroma, chroma_square, chroma_weight, hue_share};
@@ -17,8 +18,7 @@ use root_bounds::sqrt_iv;
 
 /// What is kept of a standard.
 pub(crate) fn keep<S: Scale>(standard: &Lab<S>) -> Standard<S>
-    ensures { record { l1 = result.l1; a1 = result.a1; b1 = result.b1; c1 = result.c1; sl = result.sl; sc = result.sc; sh = result.sh }
-        ≡ standard_at S.unit (record { l = standard.now.l; a = standard.now.a; b = standard.now.b }) }
+    ensures { standard_ends result ≡ standard_at S.unit (lab_ends standard.now) }
 {
     let square = chroma_square(standard.a, standard.b);
     let c1 = sqrt_iv(square);
@@ -39,15 +39,14 @@ pub(crate) fn keep<S: Scale>(standard: &Lab<S>) -> Standard<S>
 pub fn delta<S: Scale>(rule: &Cmc, standard: &Standard<S>, sample: &Lab<S>) -> Iv<S>
     ensures is { result
         ≡ kept_difference S.unit rule.now.l10 rule.now.c10
-        (record { l1 = standard.now.l1; a1 = standard.now.a1; b1 = standard.now.b1; c1 = standard.now.c1; sl = standard.now.sl; sc = standard.now.sc; sh = standard.now.sh })
-        (record { l = sample.now.l; a = sample.now.a; b = sample.now.b }) }
+        (standard_ends standard.now) (lab_ends sample.now) }
     ensures held { IsHeld result }
 {
-    let chroma_apart = chroma_difference(standard, sample);
+    let chroma_delta = chroma_difference(standard, sample);
     let lightness = lightness_term(rule, standard, sample);
-    let chroma = chroma_term(rule, standard, chroma_apart);
+    let chroma = chroma_term(rule, standard, chroma_delta);
     let hue = hue_term(
-        hue_difference_square(standard, sample, chroma_apart),
+        hue_difference_square(standard, sample, chroma_delta),
         standard,
     );
     length(lightness, chroma, hue)
@@ -55,46 +54,49 @@ pub fn delta<S: Scale>(rule: &Cmc, standard: &Standard<S>, sample: &Lab<S>) -> I
 
 /// dL over l S_L.
 fn lightness_term<S: Scale>(rule: &Cmc, standard: &Standard<S>, sample: &Lab<S>) -> Iv<S>
-    ensures is { result ≡ quotient_at S.unit (difference_of sample.now.l standard.now.l1) (fraction_of rule.now.l10 10 standard.now.sl) }
-    ensures range { Sized (40000 * S.unit) result }
+    ensures is { result
+        ≡ quotient_at S.unit (difference_of sample.now.l standard.now.l1)
+        (fraction_of rule.now.l10 10 standard.now.sl) }
+    ensures range { MagnitudeUpTo (40000 * S.unit) result }
 {
-    let apart = sample.l.sub(standard.l1);
-    apart.div(standard.sl.ratio_up(rule.l10 as u64, 10))
+    let delta = sample.l.sub(standard.l1);
+    delta.div(standard.sl.ratio_up(rule.l10 as u64, 10))
 }
 
 /// dC.
-pub(crate) fn chroma_difference<S: Scale>(standard: &Standard<S>, sample: &Lab<S>) -> Iv<S>
-    ensures is { result ≡ difference_of (chroma_at S.unit sample.now.a sample.now.b) standard.now.c1 }
-    ensures range { Sized (1415 * S.unit) result }
+fn chroma_difference<S: Scale>(standard: &Standard<S>, sample: &Lab<S>) -> Iv<S>
+    ensures is { result
+        ≡ difference_of (chroma_at S.unit sample.now.a sample.now.b) standard.now.c1 }
+    ensures range { MagnitudeUpTo (1415 * S.unit) result }
 {
     chroma(sample.a, sample.b).sub(standard.c1)
 }
 
 /// dC over c S_C.
-fn chroma_term<S: Scale>(rule: &Cmc, standard: &Standard<S>, apart: Iv<S>) -> Iv<S>
-    requires { Sized (1415 * S.unit) apart }
-    ensures is { result ≡ quotient_at S.unit apart (fraction_of rule.now.c10 10 standard.now.sc) }
-    ensures range { Sized (23000 * S.unit) result }
+fn chroma_term<S: Scale>(rule: &Cmc, standard: &Standard<S>, delta: Iv<S>) -> Iv<S>
+    requires { MagnitudeUpTo (1415 * S.unit) delta }
+    ensures is { result ≡ quotient_at S.unit delta (fraction_of rule.now.c10 10 standard.now.sc) }
+    ensures range { MagnitudeUpTo (23000 * S.unit) result }
 {
-    apart.div(standard.sc.ratio_up(rule.c10 as u64, 10))
+    delta.div(standard.sc.ratio_up(rule.c10 as u64, 10))
 }
 
 /// dH^2, from dC.
-pub(crate) fn hue_difference_square<S: Scale>(
-    standard: &Standard<S>,
-    sample: &Lab<S>,
-    apart: Iv<S>,
-) -> Iv<S>
-    requires { Sized (1415 * S.unit) apart }
-    ensures is { result ≡ cut_low_at S.unit (pos 0) (difference_of (chroma_square S.unit (difference_of sample.now.a standard.now.a1) (difference_of sample.now.b standard.now.b1)) (square_at S.unit apart)) }
+fn hue_difference_square<S: Scale>(standard: &Standard<S>, sample: &Lab<S>, delta: Iv<S>) -> Iv<S>
+    requires { MagnitudeUpTo (1415 * S.unit) delta }
+    ensures is { let da = difference_of sample.now.a standard.now.a1 in
+        let db = difference_of sample.now.b standard.now.b1 in
+        result
+        ≡ cut_low_at S.unit (pos 0)
+        (difference_of (chroma_square S.unit da db) (square_at S.unit delta)) }
     ensures range { UpTo (8 * 10 ^ 6 * S.unit) result }
 {
     let all = chroma_square(sample.a.sub(standard.a1), sample.b.sub(standard.b1));
-    all.sub(apart.square()).cut_low(0)
+    all.sub(delta.square()).cut_low(0)
 }
 
 /// S_H^2.
-pub(crate) fn hue_divisor<S: Scale>(standard: &Standard<S>) -> Iv<S>
+fn hue_divisor<S: Scale>(standard: &Standard<S>) -> Iv<S>
     ensures is { result ≡ square_at S.unit standard.now.sh }
     ensures least { AtLeast 48 1000 S.unit result }
 {
@@ -102,7 +104,7 @@ pub(crate) fn hue_divisor<S: Scale>(standard: &Standard<S>) -> Iv<S>
 }
 
 /// dH^2 over S_H^2.
-pub(crate) fn hue_term<S: Scale>(square: Iv<S>, standard: &Standard<S>) -> Iv<S>
+fn hue_term<S: Scale>(square: Iv<S>, standard: &Standard<S>) -> Iv<S>
     requires { UpTo (8 * 10 ^ 6 * S.unit) square }
     ensures is { result ≡ quotient_at S.unit square (square_at S.unit standard.now.sh) }
     ensures range { UpTo (170 * 10 ^ 6 * S.unit) result }
@@ -112,10 +114,12 @@ pub(crate) fn hue_term<S: Scale>(square: Iv<S>, standard: &Standard<S>) -> Iv<S>
 
 /// The root of the sum of two squares and the term of the hue.
 fn length<S: Scale>(lightness: Iv<S>, chroma: Iv<S>, hue: Iv<S>) -> Iv<S>
-    requires lightness { Sized (40000 * S.unit) lightness }
-    requires chroma { Sized (23000 * S.unit) chroma }
+    requires lightness { MagnitudeUpTo (40000 * S.unit) lightness }
+    requires chroma { MagnitudeUpTo (23000 * S.unit) chroma }
     requires hue { UpTo (170 * 10 ^ 6 * S.unit) hue }
-    ensures is { result ≡ sqrt_at S.unit (sum_of (sum_of (square_at S.unit lightness) (square_at S.unit chroma)) hue) }
+    ensures is { result
+        ≡ sqrt_at S.unit
+        (sum_of (sum_of (square_at S.unit lightness) (square_at S.unit chroma)) hue) }
     ensures held { IsHeld result }
 {
     let both = lightness.square().add(chroma.square());

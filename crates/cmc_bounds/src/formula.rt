@@ -1,5 +1,6 @@
 ghost use Rattle.std.specs.Prelude.{◌≡◌};
 ghost use Rattle.cmc_specs.specs.Cmc.{cmc_at, standard_at};
+ghost use Rattle.cmc_bounds.specs.Standard.{standard_ends};
 ghost use Rattle.cmc_specs.proofs.Law.{cmc_encloses};
 
 use crate::difference;
@@ -11,13 +12,13 @@ use fix_bounds::{Iv, Scale};
 impl Formula for Cmc {
     ghost value = { λ x. cmc_at x.l10 x.c10 };
 
-    ghost keeps_enclosing = { λ x. cmc_encloses x.l10 x.c10 x.l_least x.c_least };
+    ghost keeps_enclosing = { λ x. cmc_encloses x.l10 x.c10 };
 }
 
 impl<S: Scale> Difference<S> for Cmc {
     type Kept = Standard<S>;
 
-    ghost stands_for = { λ _ s p. record { l1 = s.l1; a1 = s.a1; b1 = s.b1; c1 = s.c1; sl = s.sl; sc = s.sc; sh = s.sh } ≡ standard_at S.unit p };
+    ghost stands_for = { λ _ s p. standard_ends s ≡ standard_at S.unit p };
 
     fn keep(&self, standard: &Lab<S>) -> Standard<S> {
         difference::keep(standard)

@@ -1,19 +1,19 @@
 ghost use Rattle.std.specs.Prelude.{◌≡◌, ℕ, ℤ, pos, ◌*◌, ◌^◌, ◌<◌, ◌≤◌};
-ghost use Rattle.interval_specs.specs.Ends.{whole};
-ghost use Rattle.interval_specs.specs.Ranges.{Sized, UpTo};
+ghost use Rattle.interval_specs.specs.Ends.{one_at};
+ghost use Rattle.interval_specs.specs.Ranges.{MagnitudeUpTo, UpTo, AtLeast};
 ghost use Rattle.interval_specs.specs.Operations.{difference_of};
-ghost use Rattle.cmc_specs.specs.AtLeast.{AtLeast};
-ghost use Rattle.cmc_specs.specs.Cmc.{along_12, along_35, cosine_size, first_form, hue_factor, hue_sum_15, hue_sum_16, hue_weight, is_inside, is_outside, second_form};
+ghost use Rattle.cmc_specs.specs.Cmc.{along_12, along_35, cosine_magnitude, first_form, hue_factor, hue_sum_15, hue_sum_16, hue_weight, is_inside, is_outside, second_form};
 ghost use Rattle.cmc_bounds.specs.Chroma.{IsChroma};
 
 use crate::angles::{COS_12, COS_15, COS_16, SIN_12, SIN_15, SIN_16, along_35, turned};
 use fix_bounds::{Iv, Scale};
 
-/// The size of a cosine, from its product with the chroma: any from 0 to 1 where the chroma may be 0.
-fn cosine_size<S: Scale>(product: Iv<S>, c1: Iv<S>) -> Iv<S>
-    requires product { Sized (2000 * S.unit) product }
+/// The magnitude of a cosine, from its product with the chroma: any from 0 to 1 where the chroma
+/// may be 0.
+fn cosine_magnitude<S: Scale>(product: Iv<S>, c1: Iv<S>) -> Iv<S>
+    requires product { MagnitudeUpTo (2000 * S.unit) product }
     requires chroma { IsChroma S.unit c1 }
-    ensures is { result ≡ cosine_size S.unit product c1 }
+    ensures is { result ≡ cosine_magnitude S.unit product c1 }
     ensures range { UpTo S.unit result }
 {
     if c1.lo() == 0 {
@@ -25,28 +25,28 @@ fn cosine_size<S: Scale>(product: Iv<S>, c1: Iv<S>) -> Iv<S>
 
 /// T for hues outside 164 to 345 degrees.
 fn first_form<S: Scale>(a: Iv<S>, b: Iv<S>, c1: Iv<S>) -> Iv<S>
-    requires a { Sized (1000 * S.unit) a }
-    requires b { Sized (1000 * S.unit) b }
+    requires a { MagnitudeUpTo (1000 * S.unit) a }
+    requires b { MagnitudeUpTo (1000 * S.unit) b }
     requires chroma { IsChroma S.unit c1 }
     ensures is { result ≡ first_form S.unit a b c1 }
     ensures range { UpTo S.unit result }
 {
-    let size = cosine_size(along_35(a, b), c1);
+    let magnitude = cosine_magnitude(along_35(a, b), c1);
     let least: Iv<S> = Iv::of_ratio(36, 100);
-    least.add(size.ratio_up(4, 10))
+    least.add(magnitude.ratio_up(4, 10))
 }
 
 /// T for hues from 164 to 345 degrees.
 fn second_form<S: Scale>(a: Iv<S>, b: Iv<S>, c1: Iv<S>) -> Iv<S>
-    requires a { Sized (1000 * S.unit) a }
-    requires b { Sized (1000 * S.unit) b }
+    requires a { MagnitudeUpTo (1000 * S.unit) a }
+    requires b { MagnitudeUpTo (1000 * S.unit) b }
     requires chroma { IsChroma S.unit c1 }
     ensures is { result ≡ second_form S.unit a b c1 }
     ensures range { UpTo S.unit result }
 {
-    let size = cosine_size(turned(a, COS_12, b, SIN_12), c1);
+    let magnitude = cosine_magnitude(turned(a, COS_12, b, SIN_12), c1);
     let least: Iv<S> = Iv::of_ratio(56, 100);
-    least.add(size.ratio_up(2, 10))
+    least.add(magnitude.ratio_up(2, 10))
 }
 
 /// Does the hue lie outside 164 to 345 degrees, by the two sums that are then above 0?
@@ -64,9 +64,9 @@ fn is_inside<S: Scale>(p: Iv<S>, r: Iv<S>) -> bool
 }
 
 /// T.
-pub fn hue_factor<S: Scale>(a: Iv<S>, b: Iv<S>, c1: Iv<S>) -> Iv<S>
-    requires a { Sized (1000 * S.unit) a }
-    requires b { Sized (1000 * S.unit) b }
+pub(crate) fn hue_factor<S: Scale>(a: Iv<S>, b: Iv<S>, c1: Iv<S>) -> Iv<S>
+    requires a { MagnitudeUpTo (1000 * S.unit) a }
+    requires b { MagnitudeUpTo (1000 * S.unit) b }
     requires chroma { IsChroma S.unit c1 }
     ensures is { result ≡ hue_factor S.unit a b c1 }
     ensures range { UpTo S.unit result }
@@ -86,7 +86,7 @@ pub fn hue_factor<S: Scale>(a: Iv<S>, b: Iv<S>, c1: Iv<S>) -> Iv<S>
 /// One less `x`.
 fn rest<S: Scale>(x: Iv<S>) -> Iv<S>
     requires { UpTo S.unit x }
-    ensures is { result ≡ difference_of (whole S.unit) x }
+    ensures is { result ≡ difference_of (one_at S.unit) x }
     ensures range { UpTo S.unit result }
 {
     let one: Iv<S> = Iv::of_ends(S::UNIT, S::UNIT);
@@ -94,7 +94,7 @@ fn rest<S: Scale>(x: Iv<S>) -> Iv<S>
 }
 
 /// S_H.
-pub fn hue_weight<S: Scale>(sc: Iv<S>, f: Iv<S>, t: Iv<S>) -> Iv<S>
+pub(crate) fn hue_weight<S: Scale>(sc: Iv<S>, f: Iv<S>, t: Iv<S>) -> Iv<S>
     requires sc { UpTo (6 * S.unit) sc }
     requires sc_least { AtLeast 637 1000 S.unit sc }
     requires f { UpTo S.unit f }

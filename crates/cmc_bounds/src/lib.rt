@@ -15,6 +15,3 @@ mod standard;
 pub use difference::delta;
 pub use rule::Cmc;
 pub use standard::Standard;
-
-#[cfg(test)]
-mod tests;

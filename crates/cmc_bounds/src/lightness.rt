@@ -1,27 +1,26 @@
 ghost use Rattle.std.specs.Prelude.{◌≡◌, ℕ, ◌*◌, ◌^◌, ◌≤◌, unsigned_abs};
-ghost use Rattle.interval_specs.specs.Ranges.{Sized, UpTo};
-ghost use Rattle.cmc_specs.specs.AtLeast.{AtLeast};
-ghost use Rattle.cmc_specs.specs.Cmc.{high_weight, is_dark, is_light, lightness_bottom, lightness_top, lightness_weight, low_weight};
+ghost use Rattle.interval_specs.specs.Ranges.{MagnitudeUpTo, UpTo, AtLeast};
+ghost use Rattle.cmc_specs.specs.Cmc.{high_weight, is_dark, is_light, lightness_denominator, lightness_numerator, lightness_weight, low_weight};
 
-use crate::quotient::{Quotient, outward, times_unit, unit};
-use fix_bounds::{Iv, Scale};
+use crate::quotient::{Quotient, outward, times_unit};
+use fix_bounds::{Iv, Scale, unit};
 
 /// S_L of light colours, at an end of the lightness.
 fn high_weight_at<S: Scale>(t: i128) -> Quotient
     requires { unsigned_abs t ≤ 1000 * S.unit }
-    ensures top { result.top ≡ lightness_top S.unit (unsigned_abs t) }
-    ensures bottom { result.bottom ≡ lightness_bottom S.unit (unsigned_abs t) }
+    ensures numerator { result.numerator ≡ lightness_numerator S.unit (unsigned_abs t) }
+    ensures denominator { result.denominator ≡ lightness_denominator S.unit (unsigned_abs t) }
 {
-    let size = t.unsigned_abs();
+    let magnitude = t.unsigned_abs();
     Quotient {
-        top: times_unit::<S>(40_975 * size),
-        bottom: 1_000_000 * unit::<S>() + 17_650 * size,
+        numerator: times_unit::<S>(40_975 * magnitude),
+        denominator: 1_000_000 * u128::from(unit::<S>()) + 17_650 * magnitude,
     }
 }
 
 /// S_L of light colours.
 fn high_weight<S: Scale>(l1: Iv<S>) -> Iv<S>
-    requires { Sized (1000 * S.unit) l1 }
+    requires { MagnitudeUpTo (1000 * S.unit) l1 }
     ensures is { result ≡ high_weight S.unit l1 }
     ensures range { UpTo (3 * S.unit) result }
 {
@@ -54,8 +53,8 @@ fn is_dark<S: Scale>(l1: Iv<S>) -> bool
 }
 
 /// S_L.
-pub fn lightness_weight<S: Scale>(l1: Iv<S>) -> Iv<S>
-    requires { Sized (1000 * S.unit) l1 }
+pub(crate) fn lightness_weight<S: Scale>(l1: Iv<S>) -> Iv<S>
+    requires { MagnitudeUpTo (1000 * S.unit) l1 }
     ensures is { result ≡ lightness_weight S.unit l1 }
     ensures range { UpTo (3 * S.unit) result }
     ensures least { AtLeast 51 100 S.unit result }

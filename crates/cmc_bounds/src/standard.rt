@@ -1,6 +1,5 @@
 ghost use Rattle.std.specs.Prelude.{◌≡◌, ⊤, ℕ, ◌*◌};
-ghost use Rattle.interval_specs.specs.Ranges.{Sized, UpTo};
-ghost use Rattle.cmc_specs.specs.AtLeast.{AtLeast};
+ghost use Rattle.interval_specs.specs.Ranges.{MagnitudeUpTo, UpTo, AtLeast};
 
 use fix_bounds::{Iv, Scale};
 use std::alloc::AllocError;
@@ -15,9 +14,9 @@ pub struct Standard<S: Scale> {
     pub sl: Iv<S>,
     pub sc: Iv<S>,
     pub sh: Iv<S>,
-    pub ghost l1_range: { Sized (1000 * S.unit) l1 },
-    pub ghost a1_range: { Sized (1000 * S.unit) a1 },
-    pub ghost b1_range: { Sized (1000 * S.unit) b1 },
+    pub ghost l1_range: { MagnitudeUpTo (1000 * S.unit) l1 },
+    pub ghost a1_range: { MagnitudeUpTo (1000 * S.unit) a1 },
+    pub ghost b1_range: { MagnitudeUpTo (1000 * S.unit) b1 },
     pub ghost c1_range: { UpTo (1415 * S.unit) c1 },
     pub ghost sl_range: { UpTo (3 * S.unit) sl },
     pub ghost sl_least: { AtLeast 51 100 S.unit sl },

@@ -1,5 +1,5 @@
 -- The laws of T and S_H.
-use Rattle.std.proofs.Common.{ℕ, ℤ, pos, negsuc, ◌≡◌, Bool, true, false, ◌&&◌, ◌||◌, ◌==◌, ◌*◌, ◌<◌, ◌≤ℤ◌, ◌<ℤ◌, int_le, int_lt, unsigned_abs, refl, sym, arith, lit<, ⊎_elim, inl, inr, ◌⊎◌}
+use Rattle.std.proofs.Common.{ℕ, ℤ, pos, negsuc, ◌≡◌, Bool, true, false, ◌&&◌, ◌||◌, ◌==◌, ◌*◌, ◌<◌, ◌≤ℤ◌, ◌<ℤ◌, int_le, int_lt, unsigned_abs, refl, sym, arith, ⊎_elim, inl, inr, ◌⊎◌}
 use Rattle.std.proofs.lemmas.Int.{ints}
 use Rattle.std.proofs.lemmas.Bool.{false≢true}
 use Rattle.std.proofs.lemmas.Bool.Decides.{nat_tests}
@@ -7,13 +7,11 @@ use Rattle.interval_specs.specs.Ends.{Ends}
 use Rattle.interval_specs.specs.Encloses.{Encloses}
 use Rattle.interval_specs.specs.Ranges.{UpTo}
 use Rattle.interval_specs.specs.Operations.{absolute_of, cut_high_at, quotient_at}
-use Rattle.interval_specs.proofs.Laws.{absolute_encloses, cut_high_encloses, difference_encloses, fraction_encloses, low_not_negative, product_encloses, quotient_encloses, ratio_encloses, sum_encloses, whole_encloses}
+use Rattle.interval_specs.proofs.Laws.{absolute_encloses, cut_high_encloses, difference_encloses, fraction_encloses, low_not_negative, product_encloses, quotient_encloses, ratio_encloses, sum_encloses, one_encloses, choice_encloses, le_test, lt_test, both_hold, le_holds, lt_holds, lt_refuses, still_not_above_0}
 use Rattle.interval_specs.proofs.Order.{times_positive, trans_ℤ}
-use Rattle.cmc_specs.specs.Cmc.{along_12, along_35, cosine_size, first_form, hue_factor, hue_sum_15, hue_sum_16, hue_weight, is_inside, is_outside, second_form}
-use Rattle.interval_specs.proofs.Decisions.{choice_encloses, le_test, lt_test}
-use Rattle.cmc_specs.proofs.Choices.{both_hold, le_holds, lt_holds, lt_refuses, still_not_above_0}
+use Rattle.cmc_specs.specs.Cmc.{along_12, along_35, cosine_magnitude, first_form, hue_factor, hue_sum_15, hue_sum_16, hue_weight, is_inside, is_outside, second_form}
 use Rattle.cmc_specs.proofs.PartLaws.{bracket_encloses}
-use Rattle.cmc_specs.proofs.UnitRanges.{chroma_positive, cosine_size_up_to}
+use Rattle.cmc_specs.proofs.UnitRanges.{chroma_positive, cosine_magnitude_up_to}
 
 -- ---- the products with the chroma
 
@@ -37,7 +35,7 @@ unfolding hue_sum_16
 hue_sum_16_encloses n m a b a' b' some finer p q =
     sum_encloses m _ _ _ _ (product_encloses n m _ _ _ _ some finer p (bracket_encloses n m 275637355816)) (product_encloses n m _ _ _ _ some finer q (bracket_encloses n m 961261695938))
 
--- ---- a cosine's size
+-- ---- a cosine's magnitude
 
 -- any value from 0 to 1 lies within
 from_0_to_1 : (n m : ℕ) (x : Ends) → UpTo (m * n) x → Encloses m (record { lo = pos 0; hi = pos n }) x
@@ -47,19 +45,19 @@ still_positive : (x : ℤ) → pos 0 <ℤ x → (unsigned_abs x == 0) ≡ false
 still_positive (pos x) h = let p : 0 < x = omega (arith, ints) in grind (arith, nat_tests)
 still_positive (negsuc x) h = absurd (omega (arith, ints))
 
-any_cosine : (n : ℕ) (w c : Ends) → (unsigned_abs c.lo == 0) ≡ true → cosine_size n w c ≡ record { lo = pos 0; hi = pos n }
-unfolding cosine_size
+any_cosine : (n : ℕ) (w c : Ends) → (unsigned_abs c.lo == 0) ≡ true → cosine_magnitude n w c ≡ record { lo = pos 0; hi = pos n }
+unfolding cosine_magnitude
 any_cosine n w c e = rw e refl
 
-cosine_quotient : (n : ℕ) (w c : Ends) → (unsigned_abs c.lo == 0) ≡ false → cosine_size n w c ≡ cut_high_at n (pos 1) (quotient_at n (absolute_of w) c)
-unfolding cosine_size
+cosine_quotient : (n : ℕ) (w c : Ends) → (unsigned_abs c.lo == 0) ≡ false → cosine_magnitude n w c ≡ cut_high_at n (pos 1) (quotient_at n (absolute_of w) c)
+unfolding cosine_magnitude
 cosine_quotient n w c e = rw e refl
 
-pub cosine_size_encloses : (n m : ℕ) (w c w' c' : Ends) → 0 < m → pos 0 ≤ℤ c.lo → Encloses m w w' → Encloses m c c' → Encloses m (cosine_size n w c) (cosine_size (m * n) w' c')
-cosine_size_encloses n m w c w' c' finer z p q = by (unsigned_abs c.lo == 0) refl
+pub cosine_magnitude_encloses : (n m : ℕ) (w c w' c' : Ends) → 0 < m → pos 0 ≤ℤ c.lo → Encloses m w w' → Encloses m c c' → Encloses m (cosine_magnitude n w c) (cosine_magnitude (m * n) w' c')
+cosine_magnitude_encloses n m w c w' c' finer z p q = by (unsigned_abs c.lo == 0) refl
   where
-    by : (t : Bool) → (unsigned_abs c.lo == 0) ≡ t → Encloses m (cosine_size n w c) (cosine_size (m * n) w' c')
-    by true e = rw (any_cosine n w c e) (from_0_to_1 n m _ (cosine_size_up_to (m * n) w' c' (low_not_negative m c c' q z) q.ordered))
+    by : (t : Bool) → (unsigned_abs c.lo == 0) ≡ t → Encloses m (cosine_magnitude n w c) (cosine_magnitude (m * n) w' c')
+    by true e = rw (any_cosine n w c e) (from_0_to_1 n m _ (cosine_magnitude_up_to (m * n) w' c' (low_not_negative m c c' q z) q.ordered))
     by false e =
         let low = chroma_positive c.lo z e in
         let fine = still_positive c'.lo (times_positive m c.lo c'.lo finer low q.low) in
@@ -89,12 +87,12 @@ second_short false t false v h k = (refl, k)
 pub first_form_encloses : (n m : ℕ) (a b c a' b' c' : Ends) → 0 < n → 0 < m → pos 0 ≤ℤ c.lo → Encloses m a a' → Encloses m b b' → Encloses m c c' → Encloses m (first_form n a b c) (first_form (m * n) a' b' c')
 unfolding first_form
 first_form_encloses n m a b c a' b' c' some finer z p q r =
-    sum_encloses m _ _ _ _ (ratio_encloses n m (pos 36) 100 (lit< tt)) (fraction_encloses m 4 10 _ _ (lit< tt) (cosine_size_encloses n m _ _ _ _ finer z (along_35_encloses n m a b a' b' some finer p q) r))
+    sum_encloses m _ _ _ _ (ratio_encloses n m (pos 36) 100) (fraction_encloses m 4 10 _ _ (cosine_magnitude_encloses n m _ _ _ _ finer z (along_35_encloses n m a b a' b' some finer p q) r))
 
 pub second_form_encloses : (n m : ℕ) (a b c a' b' c' : Ends) → 0 < n → 0 < m → pos 0 ≤ℤ c.lo → Encloses m a a' → Encloses m b b' → Encloses m c c' → Encloses m (second_form n a b c) (second_form (m * n) a' b' c')
 unfolding second_form
 second_form_encloses n m a b c a' b' c' some finer z p q r =
-    sum_encloses m _ _ _ _ (ratio_encloses n m (pos 56) 100 (lit< tt)) (fraction_encloses m 2 10 _ _ (lit< tt) (cosine_size_encloses n m _ _ _ _ finer z (along_12_encloses n m a b a' b' some finer p q) r))
+    sum_encloses m _ _ _ _ (ratio_encloses n m (pos 56) 100) (fraction_encloses m 2 10 _ _ (cosine_magnitude_encloses n m _ _ _ _ finer z (along_12_encloses n m a b a' b' some finer p q) r))
 
 outside_stays : (m : ℕ) (p r p' r' : Ends) → 0 < m → Encloses m p p' → Encloses m r r' → is_outside p r ≡ true → is_outside p' r' ≡ true
 outside_stays m p r p' r' finer h k e =
@@ -131,4 +129,4 @@ pub hue_weight_encloses : (n m : ℕ) (s f t s' f' t' : Ends) → 0 < n → 0 < 
 unfolding hue_weight
 hue_weight_encloses n m s f t s' f' t' some finer p q r =
     product_encloses n m _ _ _ _ some finer p
-    (difference_encloses m _ _ _ _ (whole_encloses n m) (product_encloses n m _ _ _ _ some finer q (difference_encloses m _ _ _ _ (whole_encloses n m) r)))
+    (difference_encloses m _ _ _ _ (one_encloses n m) (product_encloses n m _ _ _ _ some finer q (difference_encloses m _ _ _ _ (one_encloses n m) r)))

@@ -1,38 +1,44 @@
--- The law of the difference: a chain of the laws of its values.
-use Rattle.std.proofs.Common.{ℕ, pos, ◌*◌, ◌^◌, ◌≤◌, ◌<◌, ◌≤ℤ◌, ◌<ℤ◌, arith, lit<}
+-- The laws of the difference and of a standard: a chain of the laws of their values.
+use Rattle.std.proofs.Common.{ℕ, zero, suc, pos, ◌*◌, ◌^◌, ◌≤◌, ◌<◌, ◌≤ℤ◌, ◌<ℤ◌, arith}
 use Rattle.interval_specs.specs.Ends.{Ends, IsOrdered}
 use Rattle.interval_specs.specs.Encloses.{Encloses}
-use Rattle.interval_specs.specs.Operations.{fraction_of, square_at}
-use Rattle.interval_specs.proofs.Laws.{cut_low_encloses, difference_encloses, fraction_encloses, outer_ordered, quotient_encloses, square_encloses, sum_encloses}
-use Rattle.interval_specs.proofs.Ranges.{cut_low_not_negative, quotient_not_negative, square_not_negative, sum_not_negative}
-use Rattle.interval_specs.proofs.RootLaws.{sqrt_encloses}
+use Rattle.interval_specs.specs.Operations.{fraction_of, quotient_at, square_at}
+use Rattle.interval_specs.proofs.Laws.{none_of, quotient_by_nothing_encloses, cut_low_encloses, difference_encloses, fraction_encloses, outer_ordered, quotient_encloses, square_encloses, sum_encloses, sqrt_encloses}
+use Rattle.interval_specs.proofs.Ranges.{cut_low_not_negative, quotient_not_negative, square_not_negative, sum_not_negative, positive}
 use Rattle.cielab_bounds.specs.Cielab.{LabEnds}
 use Rattle.cielab_bounds.specs.Formula.{KeepsEnclosing}
 use Rattle.cielab_bounds.specs.Laws.{EnclosesLab}
-use Rattle.cmc_specs.specs.AtLeast.{AtLeast}
+use Rattle.interval_specs.specs.Ranges.{AtLeast}
 use Rattle.cmc_specs.specs.Cmc.{chroma_difference, chroma_term, cmc_at, hue_difference_square, hue_term, kept_difference, lightness_term, StandardEnds, standard_at}
 use Rattle.cmc_specs.specs.Laws.{CmcEncloses, EnclosesStandard}
-use Rattle.cmc_specs.proofs.LowerBounds.{positive}
 use Rattle.cmc_specs.proofs.PartLaws.{chroma_encloses}
-use Rattle.cmc_specs.proofs.Ranges.{chroma_divisor_at_least, hue_weight_square_at_least, lightness_divisor_at_least}
-use Rattle.cmc_specs.proofs.StandardLaw.{standard_encloses, standard_weighted, Weighted}
+use Rattle.cmc_specs.proofs.LeastValues.{chroma_divisor_at_least, hue_weight_square_at_least, lightness_divisor_at_least}
+use Rattle.cmc_specs.proofs.StandardLaw.{standard_weighted, Weighted}
+pub use Rattle.cmc_specs.proofs.StandardLaw.{standard_encloses}
 
 -- ---- the three terms
 
-lightness_term_encloses : (n m l10 : ℕ) (s s' : StandardEnds) (q q' : LabEnds) → 10 ^ 6 ≤ n → 0 < m → 0 < l10 → AtLeast 51 100 n s.sl → EnclosesStandard m s s' → EnclosesLab m q q' → Encloses m (lightness_term n l10 s q) (lightness_term (m * n) l10 s' q')
+-- a quotient by k tenths of an interval: by nothing where k is 0
+weighted_encloses : (n m k : ℕ) (a a' b b' : Ends) → 0 < m → (0 < k → pos 0 <ℤ (fraction_of k 10 b).lo) → Encloses m a a' → Encloses m b b' → Encloses m (quotient_at n a (fraction_of k 10 b)) (quotient_at (m * n) a' (fraction_of k 10 b'))
+weighted_encloses n m zero a a' b b' finer low p q = rw (none_of 10 b, none_of 10 b') (quotient_by_nothing_encloses n m a a' finer p)
+weighted_encloses n m (suc k) a a' b b' finer low p q = quotient_encloses n m _ _ _ _ finer (low (omega arith)) p (fraction_encloses m (suc k) 10 _ _ q)
+
+lightness_term_encloses : (n m l10 : ℕ) (s s' : StandardEnds) (q q' : LabEnds) → 10 ^ 6 ≤ n → 0 < m → AtLeast 51 100 n s.sl → EnclosesStandard m s s' → EnclosesLab m q q' → Encloses m (lightness_term n l10 s q) (lightness_term (m * n) l10 s' q')
 unfolding lightness_term
-lightness_term_encloses n m l10 s s' q q' few finer some low h k =
-    let divisor = lightness_divisor_at_least n l10 s.sl few some low in
-    quotient_encloses n m _ _ _ _ finer (positive 509 10000 n (fraction_of l10 10 s.sl) (omega arith) divisor) (difference_encloses m _ _ _ _ k.l h.l1) (fraction_encloses m l10 10 _ _ (lit< tt) h.sl)
+lightness_term_encloses n m l10 s s' q q' few finer low h k =
+    weighted_encloses n m l10 _ _ _ _ finer
+    (λ some. positive 509 10000 n (fraction_of l10 10 s.sl) (omega arith) (lightness_divisor_at_least n l10 s.sl few some low))
+    (difference_encloses m _ _ _ _ k.l h.l1) h.sl
 
 chroma_difference_encloses : (n m : ℕ) (s s' : StandardEnds) (q q' : LabEnds) → 0 < n → 0 < m → EnclosesStandard m s s' → EnclosesLab m q q' → Encloses m (chroma_difference n s q) (chroma_difference (m * n) s' q')
 chroma_difference_encloses n m s s' q q' some finer h k = difference_encloses m _ _ _ _ (chroma_encloses n m q.a q.b q'.a q'.b some finer k.a k.b) h.c1
 
-chroma_term_encloses : (n m c10 : ℕ) (s s' : StandardEnds) (q q' : LabEnds) → 10 ^ 6 ≤ n → 0 < m → 0 < c10 → AtLeast 637 1000 n s.sc → EnclosesStandard m s s' → EnclosesLab m q q' → Encloses m (chroma_term n c10 s q) (chroma_term (m * n) c10 s' q')
+chroma_term_encloses : (n m c10 : ℕ) (s s' : StandardEnds) (q q' : LabEnds) → 10 ^ 6 ≤ n → 0 < m → AtLeast 637 1000 n s.sc → EnclosesStandard m s s' → EnclosesLab m q q' → Encloses m (chroma_term n c10 s q) (chroma_term (m * n) c10 s' q')
 unfolding chroma_term
-chroma_term_encloses n m c10 s s' q q' few finer some low h k =
-    let divisor = chroma_divisor_at_least n c10 s.sc few some low in
-    quotient_encloses n m _ _ _ _ finer (positive 636 10000 n (fraction_of c10 10 s.sc) (omega arith) divisor) (chroma_difference_encloses n m s s' q q' (omega arith) finer h k) (fraction_encloses m c10 10 _ _ (lit< tt) h.sc)
+chroma_term_encloses n m c10 s s' q q' few finer low h k =
+    weighted_encloses n m c10 _ _ _ _ finer
+    (λ some. positive 636 10000 n (fraction_of c10 10 s.sc) (omega arith) (chroma_divisor_at_least n c10 s.sc few some low))
+    (chroma_difference_encloses n m s s' q q' (omega arith) finer h k) h.sc
 
 hue_difference_square_encloses : (n m : ℕ) (s s' : StandardEnds) (q q' : LabEnds) → 0 < n → 0 < m → EnclosesStandard m s s' → EnclosesLab m q q' → Encloses m (hue_difference_square n s q) (hue_difference_square (m * n) s' q')
 unfolding hue_difference_square
@@ -67,22 +73,22 @@ hue_term_not_negative n m s s' q q' few finer low h k =
 
 -- ---- the difference
 
-pub kept_encloses : (n m l10 c10 : ℕ) (s s' : StandardEnds) (q q' : LabEnds) → 10 ^ 6 ≤ n → 0 < m → 0 < l10 → 0 < c10 → Weighted n s → EnclosesStandard m s s' → EnclosesLab m q q' → Encloses m (kept_difference n l10 c10 s q) (kept_difference (m * n) l10 c10 s' q')
+kept_encloses : (n m l10 c10 : ℕ) (s s' : StandardEnds) (q q' : LabEnds) → 10 ^ 6 ≤ n → 0 < m → Weighted n s → EnclosesStandard m s s' → EnclosesLab m q q' → Encloses m (kept_difference n l10 c10 s q) (kept_difference (m * n) l10 c10 s' q')
 unfolding kept_difference
-kept_encloses n m l10 c10 s s' q q' few finer l c w h k =
+kept_encloses n m l10 c10 s s' q q' few finer w h k =
     let some : 0 < n = omega arith in
-    let x = square_encloses n m _ _ some finer (lightness_term_encloses n m l10 s s' q q' few finer l w.sl h k) in
-    let y = square_encloses n m _ _ some finer (chroma_term_encloses n m c10 s s' q q' few finer c w.sc h k) in
+    let x = square_encloses n m _ _ some finer (lightness_term_encloses n m l10 s s' q q' few finer w.sl h k) in
+    let y = square_encloses n m _ _ some finer (chroma_term_encloses n m c10 s s' q q' few finer w.sc h k) in
     let z = hue_term_encloses n m s s' q q' few finer w.sh h k in
     let squares = sum_not_negative _ _ (square_not_negative n (lightness_term n l10 s q) some) (square_not_negative n (chroma_term n c10 s q) some) in
     sqrt_encloses n m _ _ (sum_not_negative _ _ squares (hue_term_not_negative n m s s' q q' few finer w.sh h k)) (sum_encloses m _ _ _ _ (sum_encloses m _ _ _ _ x y) z)
 
--- of colours of any size
-pub any_colours_enclose : (l10 c10 : ℕ) → 0 < l10 → 0 < c10 → CmcEncloses l10 c10
-any_colours_enclose l10 c10 l c n m p q p' q' few finer h k =
+-- of colours of any magnitude, and any two weights l and c
+pub any_colours_enclose : (l10 c10 : ℕ) → CmcEncloses l10 c10
+any_colours_enclose l10 c10 n m p q p' q' few finer h k =
     let w = standard_weighted n p few (outer_ordered m p.a p'.a finer h.a) (outer_ordered m p.b p'.b finer h.b) in
-    kept_encloses n m l10 c10 (standard_at n p) (standard_at (m * n) p') q q' few finer l c w (standard_encloses n m p p' few finer h) k
+    kept_encloses n m l10 c10 (standard_at n p) (standard_at (m * n) p') q q' few finer w (standard_encloses n m p p' few finer h) k
 
 -- the law as it is asked of every colour difference
-pub cmc_encloses : (l10 c10 : ℕ) → 0 < l10 → 0 < c10 → KeepsEnclosing (cmc_at l10 c10)
-cmc_encloses l10 c10 l c n m p q p' q' few finer ip iq ip' iq' h k = any_colours_enclose l10 c10 l c n m p q p' q' few finer h k
+pub cmc_encloses : (l10 c10 : ℕ) → KeepsEnclosing (cmc_at l10 c10)
+cmc_encloses l10 c10 n m p q p' q' few finer ip iq ip' iq' h k = any_colours_enclose l10 c10 n m p q p' q' few finer h k

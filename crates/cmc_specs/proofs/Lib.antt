@@ -1,11 +1,10 @@
-pub mod Shares
-pub mod Choices
-pub mod LowerBounds
-pub mod UnitRanges
-pub mod Ranges
-pub mod Sizes
-pub mod TermSizes
-pub mod PartLaws
-pub mod HueLaws
-pub mod StandardLaw
 pub mod Law
+pub mod Ranges
+mod Shares
+mod UnitRanges
+mod LeastValues
+mod Magnitudes
+mod TermRanges
+mod PartLaws
+mod HueLaws
+mod StandardLaw

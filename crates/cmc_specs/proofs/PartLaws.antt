@@ -5,14 +5,10 @@ use Rattle.interval_specs.specs.Ends.{Ends}
 use Rattle.interval_specs.specs.Encloses.{Encloses}
 use Rattle.interval_specs.specs.Rounding.{floor_over, ceil_over}
 use Rattle.interval_specs.specs.Operations.{cut_low_at, square_at}
-use Rattle.interval_specs.proofs.Laws.{cut_low_encloses, ratio_encloses, square_encloses, sum_encloses}
-use Rattle.interval_specs.proofs.RootLaws.{sqrt_encloses}
-use Rattle.interval_specs.proofs.Ranges.{cut_low_not_negative, square_not_negative, sum_not_negative, floor_not_negative}
-use Rattle.interval_specs.proofs.RootRanges.{sqrt_not_negative}
+use Rattle.interval_specs.proofs.Laws.{cut_low_encloses, ratio_encloses, square_encloses, sum_encloses, sqrt_encloses, choice_encloses, le_test, lt_test, le_holds, le_refuses, lt_holds, still_below, still_from}
+use Rattle.interval_specs.proofs.Ranges.{cut_low_not_negative, square_not_negative, sum_not_negative, floor_not_negative, sqrt_not_negative}
 use Rattle.interval_specs.proofs.Order.{le_pos}
 use Rattle.cmc_specs.specs.Cmc.{bracket, chroma_at, chroma_gain, chroma_square, chroma_weight, fourth_power_share, high_weight, hue_share, is_dark, is_light, lightness_weight, low_weight}
-use Rattle.interval_specs.proofs.Decisions.{choice_encloses, le_test, lt_test}
-use Rattle.cmc_specs.proofs.Choices.{le_holds, le_refuses, lt_holds, still_below, still_from}
 use Rattle.cmc_specs.proofs.Shares.{quotients_enclose, share_encloses, share_of}
 
 -- ---- constants
@@ -54,9 +50,9 @@ light_stays n m a a' p e =
 
 dark_stays : (n m : ℕ) (a a' : Ends) → 0 < m → Encloses m a a' → is_dark n a ≡ true → (is_dark (m * n) a' ≡ true) × (is_light (m * n) a' ≡ false)
 dark_stays n m a a' finer p e =
-    let place = pos (16 * (m * n)) in
+    let level = pos (16 * (m * n)) in
     let d = still_below m (16 * n) (16 * (m * n)) a.hi a'.hi finer (omega arith) p.high (lt_holds a.hi (pos (16 * n)) e) in
-    (lt_test a'.hi place d, le_refuses place a'.lo (below a'.lo a'.hi place p.ordered d))
+    (lt_test a'.hi level d, le_refuses level a'.lo (below a'.lo a'.hi level p.ordered d))
   where
     below : (x y z : ℤ) → x ≤ℤ y → y <ℤ z → x <ℤ z
     below x y z h k = omega (arith, ints)
@@ -66,7 +62,7 @@ unfolding lightness_weight
 lightness_weight_encloses n m a a' some finer p =
     choice_encloses m (is_light n a) (is_dark n a) (is_light (m * n) a') (is_dark (m * n) a') (high_weight n a) (low_weight n) (high_weight (m * n) a') (low_weight (m * n))
     (light_stays n m a a' p) (dark_stays n m a a' finer p)
-    (high_weight_encloses n m a a' some finer p) (ratio_encloses n m (pos 511) 1000 (lit< tt))
+    (high_weight_encloses n m a a' some finer p) (ratio_encloses n m (pos 511) 1000)
 
 -- ---- S_C
 
@@ -76,20 +72,20 @@ chroma_gain_encloses n m c c' some finer z p = share_encloses 638 (10 ^ 4) 131 n
 
 pub chroma_weight_encloses : (n m : ℕ) (c c' : Ends) → 0 < n → 0 < m → pos 0 ≤ℤ c.lo → Encloses m c c' → Encloses m (chroma_weight n c) (chroma_weight (m * n) c')
 unfolding chroma_weight
-chroma_weight_encloses n m c c' some finer z p = sum_encloses m _ _ _ _ (ratio_encloses n m (pos 638) 1000 (lit< tt)) (chroma_gain_encloses n m c c' some finer z p)
+chroma_weight_encloses n m c c' some finer z p = sum_encloses m _ _ _ _ (ratio_encloses n m (pos 638) 1000) (chroma_gain_encloses n m c c' some finer z p)
 
 -- ---- F
 
 -- the share as one of the quotients that rise
 share_is : (n : ℕ) (x : Ends) → fourth_power_share n x ≡ share_of 1 1900 1 n x
 unfolding fourth_power_share
-share_is n x = λ i. record { lo = floor_over (pos (top (unsigned_abs x.lo) i)) (bottom (unsigned_abs x.lo) i); hi = ceil_over (pos (top (unsigned_abs x.hi) i)) (bottom (unsigned_abs x.hi) i) }
+share_is n x = λ i. record { lo = floor_over (pos (numerator (unsigned_abs x.lo) i)) (denominator (unsigned_abs x.lo) i); hi = ceil_over (pos (numerator (unsigned_abs x.hi) i)) (denominator (unsigned_abs x.hi) i) }
   where
-    top : (t : ℕ) → t * n ≡ 1 * t * n
-    top t = omega arith
+    numerator : (t : ℕ) → t * n ≡ 1 * t * n
+    numerator t = omega arith
 
-    bottom : (t : ℕ) → t + 1900 * n ≡ 1900 * n + 1 * t
-    bottom t = omega arith
+    denominator : (t : ℕ) → t + 1900 * n ≡ 1900 * n + 1 * t
+    denominator t = omega arith
 
 share_law : (n m : ℕ) (x x' : Ends) → 0 < n → 0 < m → pos 0 ≤ℤ x.lo → Encloses m x x' → Encloses m (fourth_power_share n x) (fourth_power_share (m * n) x')
 share_law n m x x' some finer z p = rw (share_is n x) (rw (share_is (m * n) x') (share_encloses 1 1900 1 n m x x' (lit< tt) some finer z p))

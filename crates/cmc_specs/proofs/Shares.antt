@@ -6,7 +6,7 @@ use Rattle.interval_specs.specs.Encloses.{Encloses}
 use Rattle.interval_specs.specs.Rounding.{floor_over, ceil_over}
 use Rattle.interval_specs.proofs.Order.{trans_ℤ, refl_ℤ}
 use Rattle.interval_specs.proofs.Rounds.{floor_encloses, ceil_encloses, floor_le_ceil}
-use Rattle.interval_specs.proofs.RootLaws.{low_size, high_size, not_below, sizes_in_order}
+use Rattle.interval_specs.proofs.Roots.{low_magnitude, high_magnitude, not_below, magnitudes_in_order}
 
 crossed_ℤ : (a b c d : ℕ) → a * b ≤ c * d → (pos a *ℤ pos b) ≤ℤ (pos c *ℤ pos d)
 crossed_ℤ a b c d h = omega (arith, ints)
@@ -15,7 +15,7 @@ crossed_ℤ a b c d h = omega (arith, ints)
 pub quotients_in_order : (z y d e : ℕ) → 0 < d → 0 < e → e * z ≤ d * y → floor_over (pos z) d ≤ℤ ceil_over (pos y) e
 quotients_in_order z y d e p q h =
     let near = floor_encloses 1 d e (pos z) (pos y) p q (crossed_ℤ (1 * e) z d y (omega arith)) in
-    trans_ℤ (floor_over (pos z) d) (floor_over (pos y) e) (ceil_over (pos y) e) (omega (arith, ints)) (floor_le_ceil (pos y) (pos y) e q (refl_ℤ (pos y)))
+    trans_ℤ (floor_over (pos z) d) (floor_over (pos y) e) (ceil_over (pos y) e) (omega (arith, ints)) (floor_le_ceil (pos y) (pos y) e (refl_ℤ (pos y)))
 
 -- two quotients at each scale, compared by products
 pub quotients_enclose : (m z d y e z' d' y' e' : ℕ) → 0 < d → 0 < e → 0 < d' → 0 < e' → m * d' * z ≤ d * z' → e * y' ≤ m * e' * y → e' * z' ≤ d' * y' → Encloses m (record { lo = floor_over (pos z) d; hi = ceil_over (pos y) e }) (record { lo = floor_over (pos z') d'; hi = ceil_over (pos y') e' })
@@ -51,11 +51,11 @@ share_encloses k a b n m x x' some scale finer z h =
     let u = unsigned_abs x.hi in
     let t' = unsigned_abs x'.lo in
     let u' = unsigned_abs x'.hi in
-    let o = sizes_in_order x'.lo x'.hi 1 z' h.ordered in
+    let o = magnitudes_in_order x'.lo x'.hi 1 z' h.ordered in
     let coarse : 0 < a * n = mul-pos some scale in
     let fine : 0 < a * (m * n) = mul-pos some (mul-pos finer scale) in
     quotients_enclose m _ (a * n + b * t) _ (a * n + b * u) _ (a * (m * n) + b * t') _ (a * (m * n) + b * u')
     (omega arith) (omega arith) (omega arith) (omega arith)
-    (rises k a b n m t t' (low_size m x.lo x'.lo z h.low))
-    (falls k a b n m u u' (high_size m x.hi x'.hi up' h.high))
+    (rises k a b n m t t' (low_magnitude m x.lo x'.lo z h.low))
+    (falls k a b n m u u' (high_magnitude m x.hi x'.hi up' h.high))
     (across k a b (m * n) t' u' (omega arith))

@@ -1,18 +1,17 @@
--- The values of the difference that lie from 0 to 1: the share F and the size of a cosine.
+-- The values of the difference that lie from 0 to 1: the share F and the magnitude of a cosine.
 use Rattle.std.proofs.Common.{ℕ, ℤ, pos, negsuc, ◌≡◌, Bool, true, false, ◌==◌, if◌then◌else◌, ◌+◌, ◌*◌, ◌<◌, ◌*ℤ◌, ◌≤ℤ◌, ◌<ℤ◌, unsigned_abs, refl, arith, mul-le-mul_left, le_refl}
 use Rattle.std.proofs.lemmas.Int.{ints}
 use Rattle.std.proofs.lemmas.Bool.Decides.{nat_tests}
 use Rattle.std.specs.Int.{int_min}
-use Rattle.interval_specs.specs.Ends.{Ends, IsOrdered, size_of}
+use Rattle.interval_specs.specs.Ends.{Ends, IsOrdered, magnitude_of}
 use Rattle.interval_specs.specs.Ranges.{UpTo}
 use Rattle.interval_specs.specs.Operations.{absolute_of, cut_high_at, quotient_at, square_at}
 use Rattle.interval_specs.proofs.Order.{either_min, le_pos, min_left, min_right, refl_ℤ, trans_ℤ}
 use Rattle.interval_specs.proofs.Rounds.{ceil_least}
-use Rattle.interval_specs.proofs.QuotientLaw.{quotients_ordered}
-use Rattle.interval_specs.proofs.Ranges.{absolute_up_to, floor_not_negative, quotient_not_negative, square_up_to}
-use Rattle.interval_specs.proofs.RootRanges.{sqrt_up_to}
-use Rattle.cielab_bounds.proofs.BendLaw.{sizes_rise}
-use Rattle.cmc_specs.specs.Cmc.{cosine_size, fourth_power_share, hue_share}
+use Rattle.interval_specs.proofs.Laws.{quotients_ordered}
+use Rattle.interval_specs.proofs.Roots.{magnitudes_rise}
+use Rattle.interval_specs.proofs.Ranges.{absolute_up_to, floor_not_negative, quotient_not_negative, square_up_to, sqrt_up_to}
+use Rattle.cmc_specs.specs.Cmc.{cosine_magnitude, fourth_power_share, hue_share}
 use Rattle.cmc_specs.proofs.Shares.{quotients_in_order}
 
 -- ---- F lies from 0 to 1
@@ -26,7 +25,7 @@ share_up_to n x some z o =
     let e = u + 1900 * n in
     let p : 0 < d = omega arith in
     let q : 0 < e = omega arith in
-    let h = mul-le-mul_left (n * n) (sizes_rise x.lo x.hi z o) in
+    let h = mul-le-mul_left (n * n) (magnitudes_rise x.lo x.hi z o) in
     record {
       not_negative = floor_not_negative (pos (t * n)) d p (le_pos (t * n));
       ordered = quotients_in_order (t * n) (u * n) d e p q (omega arith);
@@ -36,12 +35,12 @@ share_up_to n x some z o =
 pub hue_share_up_to : (n : ℕ) (p1 : Ends) → 0 < n → UpTo n (hue_share n p1)
 unfolding hue_share
 hue_share_up_to n p1 some =
-    let k = size_of p1 in
+    let k = magnitude_of p1 in
     let more = mul-le-mul_left (k * k) some in
     let s = square_up_to n (k * k) k p1 some (omega arith) (le_refl k) in
     sqrt_up_to n n n (fourth_power_share n (square_at n p1)) (le_refl (n * n)) (share_up_to n (square_at n p1) some s.not_negative s.ordered)
 
--- ---- a cosine's size lies from 0 to 1
+-- ---- a cosine's magnitude lies from 0 to 1
 
 cut_up_to_one : (n : ℕ) (a : Ends) → pos 0 ≤ℤ a.lo → IsOrdered a → UpTo n (cut_high_at n (pos 1) a)
 unfolding cut_high_at
@@ -57,16 +56,16 @@ pub chroma_positive : (x : ℤ) → pos 0 ≤ℤ x → (unsigned_abs x == 0) ≡
 chroma_positive (pos x) z e = let p : 0 < x = grind (arith, nat_tests) in omega (arith, ints)
 chroma_positive (negsuc x) z e = absurd (omega (arith, ints))
 
--- the size of w over c1, before its cut
-size_over_chroma : (n : ℕ) (w c1 : Ends) → pos 0 <ℤ c1.lo → IsOrdered c1 → UpTo n (cut_high_at n (pos 1) (quotient_at n (absolute_of w) c1))
-size_over_chroma n w c1 low o =
-    let s = absolute_up_to (size_of w) w (le_refl (size_of w)) in
-    cut_up_to_one n (quotient_at n (absolute_of w) c1) (quotient_not_negative n (absolute_of w) c1 low o s.not_negative s.ordered) (quotients_ordered n (absolute_of w) c1 low s.ordered)
+-- the magnitude of w over c1, before its cut
+magnitude_over_chroma : (n : ℕ) (w c1 : Ends) → pos 0 <ℤ c1.lo → IsOrdered c1 → UpTo n (cut_high_at n (pos 1) (quotient_at n (absolute_of w) c1))
+magnitude_over_chroma n w c1 low o =
+    let s = absolute_up_to (magnitude_of w) w (le_refl (magnitude_of w)) in
+    cut_up_to_one n (quotient_at n (absolute_of w) c1) (quotient_not_negative n (absolute_of w) c1 low o s.not_negative s.ordered) (quotients_ordered n (absolute_of w) c1 s.ordered)
 
-pub cosine_size_up_to : (n : ℕ) (w c1 : Ends) → pos 0 ≤ℤ c1.lo → IsOrdered c1 → UpTo n (cosine_size n w c1)
-unfolding cosine_size
-cosine_size_up_to n w c1 z o = by (unsigned_abs c1.lo == 0) refl
+pub cosine_magnitude_up_to : (n : ℕ) (w c1 : Ends) → pos 0 ≤ℤ c1.lo → IsOrdered c1 → UpTo n (cosine_magnitude n w c1)
+unfolding cosine_magnitude
+cosine_magnitude_up_to n w c1 z o = by (unsigned_abs c1.lo == 0) refl
   where
     by : (t : Bool) → (unsigned_abs c1.lo == 0) ≡ t → UpTo n (if t then (record { lo = pos 0; hi = pos n }) else (cut_high_at n (pos 1) (quotient_at n (absolute_of w) c1)))
     by true e = record { not_negative = le_pos 0; ordered = le_pos n; below = refl_ℤ (pos n) }
-    by false e = size_over_chroma n w c1 (chroma_positive c1.lo z e) o
+    by false e = magnitude_over_chroma n w c1 (chroma_positive c1.lo z e) o

@@ -1,7 +1,7 @@
 -- The CMC(l:c) colour difference of ISO 105-J03, of a standard and a sample that are each L, a and b as intervals, at
 -- every scale n. Index 1 is the standard, and each formula is evaluated in the order in which it is written.
 use Rattle.std.specs.Prelude.{ℕ, ◌+◌, ◌*◌, ◌^◌, pos, Bool, ◌&&◌, ◌||◌, ◌==◌, int_le, int_lt, if◌then◌else◌, unsigned_abs}
-use Rattle.interval_specs.specs.Ends.{Ends, whole}
+use Rattle.interval_specs.specs.Ends.{Ends, one_at}
 use Rattle.interval_specs.specs.Rounding.{floor_over, ceil_over}
 use Rattle.interval_specs.specs.Operations.{absolute_of, cut_high_at, cut_low_at, difference_of, fraction_of, hull_of, product_at, quotient_at, ratio_at, square_at, sum_of}
 use Rattle.interval_specs.specs.Roots.{sqrt_at}
@@ -50,11 +50,11 @@ chroma_at n a b = sqrt_at n (chroma_square n a b)
 -- ---- S_L
 
 -- 0.040975 t / (1 + 0.01765 t) for an end t that is not below 0, as a quotient of whole numbers
-abbrev pub lightness_top : ℕ → ℕ → ℕ
-lightness_top n t = 40975 * t * n
+abbrev pub lightness_numerator : ℕ → ℕ → ℕ
+lightness_numerator n t = 40975 * t * n
 
-abbrev pub lightness_bottom : ℕ → ℕ → ℕ
-lightness_bottom n t = 10 ^ 6 * n + 17650 * t
+abbrev pub lightness_denominator : ℕ → ℕ → ℕ
+lightness_denominator n t = 10 ^ 6 * n + 17650 * t
 
 -- the same of both ends of L1, which are raised to 16
 unfoldable pub high_weight : ℕ → Ends → Ends
@@ -63,8 +63,8 @@ high_weight n l1 = raised (cut_low_at n (pos 16) l1)
     raised : Ends → Ends
     raised t =
         record {
-          lo = floor_over (pos (lightness_top n (unsigned_abs t.lo))) (lightness_bottom n (unsigned_abs t.lo));
-          hi = ceil_over (pos (lightness_top n (unsigned_abs t.hi))) (lightness_bottom n (unsigned_abs t.hi));
+          lo = floor_over (pos (lightness_numerator n (unsigned_abs t.lo))) (lightness_denominator n (unsigned_abs t.lo));
+          hi = ceil_over (pos (lightness_numerator n (unsigned_abs t.hi))) (lightness_denominator n (unsigned_abs t.hi));
         }
 
 -- 0.511, below L1 = 16
@@ -87,17 +87,17 @@ lightness_weight n l1 =
 -- ---- S_C
 
 -- 0.0638 t / (1 + 0.0131 t) for an end t of the chroma
-abbrev pub chroma_top : ℕ → ℕ → ℕ
-chroma_top n t = 638 * t * n
+abbrev pub chroma_numerator : ℕ → ℕ → ℕ
+chroma_numerator n t = 638 * t * n
 
-abbrev pub chroma_bottom : ℕ → ℕ → ℕ
-chroma_bottom n t = 10 ^ 4 * n + 131 * t
+abbrev pub chroma_denominator : ℕ → ℕ → ℕ
+chroma_denominator n t = 10 ^ 4 * n + 131 * t
 
 unfoldable pub chroma_gain : ℕ → Ends → Ends
 chroma_gain n c1 =
     record {
-      lo = floor_over (pos (chroma_top n (unsigned_abs c1.lo))) (chroma_bottom n (unsigned_abs c1.lo));
-      hi = ceil_over (pos (chroma_top n (unsigned_abs c1.hi))) (chroma_bottom n (unsigned_abs c1.hi));
+      lo = floor_over (pos (chroma_numerator n (unsigned_abs c1.lo))) (chroma_denominator n (unsigned_abs c1.lo));
+      hi = ceil_over (pos (chroma_numerator n (unsigned_abs c1.hi))) (chroma_denominator n (unsigned_abs c1.hi));
     }
 
 -- S_C = 0.638 + 0.0638 C1 / (1 + 0.0131 C1)
@@ -120,27 +120,27 @@ hue_share n p1 = sqrt_at n (fourth_power_share n (square_at n p1))
 
 -- ---- T
 
--- the cosine of h1 + 35 degrees, times the chroma
+-- C1 cos(h1 + 35 degrees) = a cos 35 - b sin 35
 unfoldable pub along_35 : ℕ → Ends → Ends → Ends
 along_35 n a b = difference_of (product_at n a (cos35 n)) (product_at n b (sin35 n))
 
--- the cosine of h1 + 168 degrees, times the chroma, but for its sign
+-- -C1 cos(h1 + 168 degrees) = a cos 12 + b sin 12
 unfoldable pub along_12 : ℕ → Ends → Ends → Ends
 along_12 n a b = sum_of (product_at n a (cos12 n)) (product_at n b (sin12 n))
 
--- the size of a cosine, from its product with the chroma: any from 0 to 1 where the chroma may be 0
-unfoldable pub cosine_size : ℕ → Ends → Ends → Ends
-cosine_size n w c1 =
+-- the magnitude of a cosine, from its product with the chroma: any from 0 to 1 where the chroma may be 0
+unfoldable pub cosine_magnitude : ℕ → Ends → Ends → Ends
+cosine_magnitude n w c1 =
     if unsigned_abs c1.lo == 0 then record { lo = pos 0; hi = pos n }
     else cut_high_at n (pos 1) (quotient_at n (absolute_of w) c1)
 
 -- 0.36 + |0.4 cos(h1 + 35)|, for hues outside 164 to 345 degrees
 unfoldable pub first_form : ℕ → Ends → Ends → Ends → Ends
-first_form n a b c1 = sum_of (ratio_at n (pos 36) 100) (fraction_of 4 10 (cosine_size n (along_35 n a b) c1))
+first_form n a b c1 = sum_of (ratio_at n (pos 36) 100) (fraction_of 4 10 (cosine_magnitude n (along_35 n a b) c1))
 
 -- 0.56 + |0.2 cos(h1 + 168)|, for hues from 164 to 345 degrees
 unfoldable pub second_form : ℕ → Ends → Ends → Ends → Ends
-second_form n a b c1 = sum_of (ratio_at n (pos 56) 100) (fraction_of 2 10 (cosine_size n (along_12 n a b) c1))
+second_form n a b c1 = sum_of (ratio_at n (pos 56) 100) (fraction_of 2 10 (cosine_magnitude n (along_12 n a b) c1))
 
 -- the two sums that are both above 0 exactly where the hue lies outside 164 to 345 degrees
 unfoldable pub hue_sum_15 : ℕ → Ends → Ends → Ends
@@ -166,7 +166,7 @@ hue_factor n a b c1 =
 
 -- S_H = S_C (F T + 1 - F), as S_C (1 - F (1 - T))
 unfoldable pub hue_weight : ℕ → Ends → Ends → Ends → Ends
-hue_weight n sc f t = product_at n sc (difference_of (whole n) (product_at n f (difference_of (whole n) t)))
+hue_weight n sc f t = product_at n sc (difference_of (one_at n) (product_at n f (difference_of (one_at n) t)))
 
 -- ---- the standard
 

@@ -1,3 +1,2 @@
 pub mod Cmc
-pub mod AtLeast
 pub mod Laws

@@ -10,13 +10,13 @@ use Rattle.std.specs.Option.{option_or}
 use Rattle.dec_text.specs.declared.fault.DecFault.{DecFault}
 use Rattle.dec_text.specs.declared.fault.DecFault.TheVariants.{Empty, TooManyPlaces, TooLarge}
 use Rattle.std.specs.List.{list_any, position_or_len}
-use Rattle.dec_text.specs.Decimal.{is_digit, digits_from, is_blank, point_of, whole_of, fraction_of, stray_from, unless_stray, has_more, largest, signed, size_of, number_of, body_value}
+use Rattle.dec_text.specs.Decimal.{is_digit, digits_from, is_blank, point_of, whole_of, fraction_of, stray_from, unless_stray, has_more, largest, signed, magnitude_of, number_of, body_value}
 use Rattle.dec_text.proofs.Digits.{IsDigits}
 
 not_point : (c : ℕ) → is_digit c ≡ true → (c == 46) ≡ false
 not_point c h = grind (arith, nat_tests)
 
--- the place of a point
+-- the position of a point
 unwrapped : (b : Bool) (k n : ℕ) → (b ≡ false → k ≡ n) → unwrap_or (cond b (Some k) None) n ≡ k
 unwrapped true k n h = refl
 unwrapped false k n h = sym (h refl)
@@ -92,21 +92,21 @@ within : (n : ℕ) → n ≤ largest → nat_lt largest n ≡ false
 within n h = grind (arith, nat_tests)
 
 -- the number that the parts write
-pub parts_number : (places n : ℕ) (minus : Bool) (ds rest : List ℕ) → length rest ≡ places → digits_from (digits_from 0 ds) rest ≡ n → n ≤ largest → number_of places minus ds rest ≡ Ok (signed minus n)
-unfolding number_of size_of
-parts_number places n minus ds rest l v small =
+pub parts_number : (decimals n : ℕ) (minus : Bool) (ds rest : List ℕ) → length rest ≡ decimals → digits_from (digits_from 0 ds) rest ≡ n → n ≤ largest → number_of decimals minus ds rest ≡ Ok (signed minus n)
+unfolding number_of magnitude_of
+parts_number decimals n minus ds rest l v small =
     let written = ap (λ k. take k rest) (sym l) ∙ take-length rest in
     let left = ap (λ k. drop k rest) (sym l) ∙ drop-length rest in
-    let none : places - length rest ≡ 0 = omega arith in
+    let none : decimals - length rest ≡ 0 = omega arith in
     let one : digits_from (digits_from 0 ds) rest * 1 ≡ digits_from (digits_from 0 ds) rest = omega arith in
-    let size = (λ i. digits_from (digits_from 0 ds) (written i) * 10 ^ none i) ∙ one ∙ v in
-    all_well (has_more places rest) (nat_lt largest (size_of places ds rest)) (size_of places ds rest) n minus
-    (ap (list_any (λ d. not (d == 48))) left) (ap (nat_lt largest) size ∙ within n small) size
+    let magnitude = (λ i. digits_from (digits_from 0 ds) (written i) * 10 ^ none i) ∙ one ∙ v in
+    all_well (has_more decimals rest) (nat_lt largest (magnitude_of decimals ds rest)) (magnitude_of decimals ds rest) n minus
+    (ap (list_any (λ d. not (d == 48))) left) (ap (nat_lt largest) magnitude ∙ within n small) magnitude
 
-pub body_number : (places n sign : ℕ) (minus : Bool) (body ds rest : List ℕ) → Parts body ds rest → IsDigits ds → IsDigits rest → number_of places minus ds rest ≡ Ok (signed minus n) → body_value places minus sign body ≡ Ok (signed minus n)
+pub body_number : (decimals n sign : ℕ) (minus : Bool) (body ds rest : List ℕ) → Parts body ds rest → IsDigits ds → IsDigits rest → number_of decimals minus ds rest ≡ Ok (signed minus n) → body_value decimals minus sign body ≡ Ok (signed minus n)
 unfolding body_value
-body_number places n sign minus body ds rest p d r v =
+body_number decimals n sign minus body ds rest p d r v =
     let before = ap (stray_from sign) p.whole ∙ no_stray sign ds d in
     let behind = ap (stray_from (sign + point_of body + 1)) p.fraction ∙ no_stray (sign + point_of body + 1) rest r in
-    none_astray (is_blank body) (option_or (stray_from sign (whole_of body)) (stray_from (sign + point_of body + 1) (fraction_of body))) (number_of places minus (whole_of body) (fraction_of body)) (Ok (signed minus n))
-    p.blank (λ i. option_or (before i) (behind i)) ((λ i. number_of places minus (p.whole i) (p.fraction i)) ∙ v)
+    none_astray (is_blank body) (option_or (stray_from sign (whole_of body)) (stray_from (sign + point_of body + 1) (fraction_of body))) (number_of decimals minus (whole_of body) (fraction_of body)) (Ok (signed minus n))
+    p.blank (λ i. option_or (before i) (behind i)) ((λ i. number_of decimals minus (p.whole i) (p.fraction i)) ∙ v)

@@ -1,5 +1,6 @@
-pub mod Sizes
-pub mod Texts
-pub mod Digits
-pub mod Bodies
-pub mod RoundTrip
+mod Magnitudes
+mod Texts
+mod Digits
+mod Bodies
+mod RoundTrip
+mod WholeFacts

@@ -12,34 +12,34 @@ use Rattle.dec_text.proofs.Bodies.{with_point, without_point, parts_number, body
 fits : (n q : ℕ) → n ≤ largest → n / q < 2 ^ 64
 fits n q h = let d = div-le_self n q in omega arith
 
--- a size, behind a sign or none
-size_reads : (places n sign : ℕ) (minus : Bool) → n ≤ largest → body_value places minus sign (unsigned_text places n) ≡ Ok (signed minus n)
+-- a magnitude, behind a sign or none
+magnitude_reads : (decimals n sign : ℕ) (minus : Bool) → n ≤ largest → body_value decimals minus sign (unsigned_text decimals n) ≡ Ok (signed minus n)
 unfolding unsigned_text behind_point
-size_reads zero n sign minus h =
+magnitude_reads zero n sign minus h =
     let whole = n / 10 ^ zero in
     let d = decimal_digits whole (fits n (10 ^ zero) h) in
     body_number zero n sign minus _ (decimal whole) [] (without_point (decimal whole) d.0 d.1) d.0 tt
     (parts_number zero n minus (decimal whole) [] refl (decimal_number whole (fits n (10 ^ zero) h) ∙ div-one n) h)
-size_reads (suc k) n sign minus h =
+magnitude_reads (suc k) n sign minus h =
     let whole = n / 10 ^ suc k in
-    let places = last_digits (suc k) n in
+    let decimals = last_digits (suc k) n in
     let d = decimal_digits whole (fits n (10 ^ suc k) h) in
-    body_number (suc k) n sign minus _ (decimal whole) places (with_point (decimal whole) places d.0 d.1) d.0 (last_digits_digits (suc k) n)
-    (parts_number (suc k) n minus (decimal whole) places (length-last_digits (suc k) n)
-    (ap (λ t. digits_from t places) (decimal_number whole (fits n (10 ^ suc k) h)) ∙ last_digits_number (suc k) n) h)
+    body_number (suc k) n sign minus _ (decimal whole) decimals (with_point (decimal whole) decimals d.0 d.1) d.0 (last_digits_digits (suc k) n)
+    (parts_number (suc k) n minus (decimal whole) decimals (length-last_digits (suc k) n)
+    (ap (λ t. digits_from t decimals) (decimal_number whole (fits n (10 ^ suc k) h)) ∙ last_digits_number (suc k) n) h)
 
 -- digits are no sign
 no_sign : (ds rest : List ℕ) → IsDigits ds → 0 < length ds → (sign_len (ds ++ rest) ≡ 0) × (is_minus (ds ++ rest) ≡ false)
 no_sign [] rest h some = absurd (omega arith)
 no_sign (c ∷ cs) rest h some = let d = h.0 in (grind (arith, nat_tests), grind (arith, nat_tests))
 
-starts_with_digits : (places n : ℕ) → n ≤ largest → (sign_len (unsigned_text places n) ≡ 0) × (is_minus (unsigned_text places n) ≡ false)
+starts_with_digits : (decimals n : ℕ) → n ≤ largest → (sign_len (unsigned_text decimals n) ≡ 0) × (is_minus (unsigned_text decimals n) ≡ false)
 unfolding unsigned_text
-starts_with_digits places n h =
-    let d = decimal_digits (n / 10 ^ places) (fits n (10 ^ places) h) in
-    no_sign (decimal (n / 10 ^ places)) (behind_point places n) d.0 d.1
+starts_with_digits decimals n h =
+    let d = decimal_digits (n / 10 ^ decimals) (fits n (10 ^ decimals) h) in
+    no_sign (decimal (n / 10 ^ decimals)) (behind_point decimals n) d.0 d.1
 
 pub reads_back : ReadsBack
 unfolding decimal_of fixed_text
-reads_back places (pos n) h = let s = starts_with_digits places n h in rw (s.0, s.1) (size_reads places n 0 false h)
-reads_back places (negsuc n) h = size_reads places (suc n) 1 true h
+reads_back decimals (pos n) h = let s = starts_with_digits decimals n h in rw (s.0, s.1) (magnitude_reads decimals n 0 false h)
+reads_back decimals (negsuc n) h = magnitude_reads decimals (suc n) 1 true h

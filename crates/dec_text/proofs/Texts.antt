@@ -26,34 +26,34 @@ unfolding behind_point
 behind_point_none zero n h = refl
 behind_point_none (suc k) n h = absurd (omega arith)
 
-fixed_text-below : (places : ℕ) (z : ℤ) → lt_z z (pos 0) ≡ true → fixed_text places z ≡ 45 ∷ unsigned_text places (unsigned_abs z)
+fixed_text-below : (decimals : ℕ) (z : ℤ) → lt_z z (pos 0) ≡ true → fixed_text decimals z ≡ 45 ∷ unsigned_text decimals (unsigned_abs z)
 unfolding fixed_text
-fixed_text-below places (pos n) h = absurd (grind (arith, nat_tests))
-fixed_text-below places (negsuc n) h = refl
+fixed_text-below decimals (pos n) h = absurd (grind (arith, nat_tests))
+fixed_text-below decimals (negsuc n) h = refl
 
-fixed_text-above : (places : ℕ) (z : ℤ) → lt_z z (pos 0) ≡ false → fixed_text places z ≡ unsigned_text places (unsigned_abs z)
+fixed_text-above : (decimals : ℕ) (z : ℤ) → lt_z z (pos 0) ≡ false → fixed_text decimals z ≡ unsigned_text decimals (unsigned_abs z)
 unfolding fixed_text
-fixed_text-above places (pos n) h = refl
-fixed_text-above places (negsuc n) h = absurd (cc)
+fixed_text-above decimals (pos n) h = refl
+fixed_text-above decimals (negsuc n) h = absurd (cc)
 
--- a sign and then the size
-pub text_below : (places size : ℕ) (z : ℤ) (out mid begin : List ℕ) → lt_z z (pos 0) ≡ true → size ≡ unsigned_abs z → out ≡ mid ++ unsigned_text places size → mid ≡ begin ++ 45 ∷ [] → out ≡ begin ++ fixed_text places z
-text_below places size z out mid begin h s o m = rw (o, m, s, fixed_text-below places z h) (append_assoc begin (45 ∷ []) (unsigned_text places (unsigned_abs z)))
+-- a sign and then the magnitude
+pub text_below : (decimals magnitude : ℕ) (z : ℤ) (out mid begin : List ℕ) → lt_z z (pos 0) ≡ true → magnitude ≡ unsigned_abs z → out ≡ mid ++ unsigned_text decimals magnitude → mid ≡ begin ++ 45 ∷ [] → out ≡ begin ++ fixed_text decimals z
+text_below decimals magnitude z out mid begin h s o m = rw (o, m, s, fixed_text-below decimals z h) (append_assoc begin (45 ∷ []) (unsigned_text decimals (unsigned_abs z)))
 
--- the size alone
-pub text_above : (places size : ℕ) (z : ℤ) (out begin : List ℕ) → lt_z z (pos 0) ≡ false → size ≡ unsigned_abs z → out ≡ begin ++ unsigned_text places size → out ≡ begin ++ fixed_text places z
-text_above places size z out begin h s o = rw (o, s, fixed_text-above places z h) refl
+-- the magnitude alone
+pub text_above : (decimals magnitude : ℕ) (z : ℤ) (out begin : List ℕ) → lt_z z (pos 0) ≡ false → magnitude ≡ unsigned_abs z → out ≡ begin ++ unsigned_text decimals magnitude → out ≡ begin ++ fixed_text decimals z
+text_above decimals magnitude z out begin h s o = rw (o, s, fixed_text-above decimals z h) refl
 
--- the whole part, a point and the places
-pub text_with_places : (places size power : ℕ) (begin whole point out : List ℕ) → 0 < places → power ≡ 10 ^ places → whole ≡ begin ++ decimal (size / power) → point ≡ whole ++ 46 ∷ [] → out ≡ point ++ last_digits places size → out ≡ begin ++ unsigned_text places size
+-- the whole part, a point and the decimals
+pub text_with_decimals : (decimals magnitude power : ℕ) (begin whole point out : List ℕ) → 0 < decimals → power ≡ 10 ^ decimals → whole ≡ begin ++ decimal (magnitude / power) → point ≡ whole ++ 46 ∷ [] → out ≡ point ++ last_digits decimals magnitude → out ≡ begin ++ unsigned_text decimals magnitude
 unfolding unsigned_text
-text_with_places places size power begin whole point out some p w d o =
-    rw (o, d, w, p, behind_point_some places size some) (simp append_assoc)
+text_with_decimals decimals magnitude power begin whole point out some p w d o =
+    rw (o, d, w, p, behind_point_some decimals magnitude some) (simp append_assoc)
 
 -- the whole part alone
-pub text_without : (places size power : ℕ) (begin out : List ℕ) → places ≤ 0 → power ≡ 10 ^ places → out ≡ begin ++ decimal (size / power) → out ≡ begin ++ unsigned_text places size
+pub text_without : (decimals magnitude power : ℕ) (begin out : List ℕ) → decimals ≤ 0 → power ≡ 10 ^ decimals → out ≡ begin ++ decimal (magnitude / power) → out ≡ begin ++ unsigned_text decimals magnitude
 unfolding unsigned_text
-text_without places size power begin out none p o = rw (o, p, behind_point_none places size none) (ap (λ t. begin ++ t) (sym (append-nil (decimal (size / 10 ^ places)))))
+text_without decimals magnitude power begin out none p o = rw (o, p, behind_point_none decimals magnitude none) (ap (λ t. begin ++ t) (sym (append-nil (decimal (magnitude / 10 ^ decimals)))))
 
 -- one digit more of those that are left
 pub digits_put : (behind count number power : ℕ) (begin mid out : List ℕ) → 0 < behind → power ≡ 10 ^ (behind - 1) → out ≡ mid ++ (48 + number / power % 10) ∷ [] → mid ++ last_digits behind number ≡ begin ++ last_digits count number → out ++ last_digits (behind - 1) number ≡ begin ++ last_digits count number

@@ -1,4 +1,4 @@
--- Numbers printed with a fixed count of places.
+-- Numbers printed with a fixed count of decimals.
 use Rattle.std.specs.Prelude.{ℕ, zero, suc, ◌+◌, ◌/◌, ◌%◌, ◌^◌, ℤ, pos, negsuc, List, [], ◌∷◌, ◌++◌, decimal}
 
 -- the last digits of a number, so many
@@ -6,20 +6,20 @@ unfoldable pub last_digits : ℕ → ℕ → List ℕ
 last_digits zero n = []
 last_digits (suc k) n = (48 + n / 10 ^ k % 10) ∷ last_digits k n
 
--- a point and the places, or nothing where there are none
+-- a point and the decimals, or nothing where there are none
 unfoldable pub behind_point : ℕ → ℕ → List ℕ
 behind_point zero n = []
 behind_point (suc k) n = 46 ∷ last_digits (suc k) n
 
--- a size that is counted in its last place
+-- a magnitude that is counted in its last decimal
 unfoldable pub unsigned_text : ℕ → ℕ → List ℕ
-unsigned_text places n = decimal (n / 10 ^ places) ++ behind_point places n
+unsigned_text decimals n = decimal (n / 10 ^ decimals) ++ behind_point decimals n
 
--- a number that is counted in its last place
+-- a number that is counted in its last decimal
 unfoldable pub fixed_text : ℕ → ℤ → List ℕ
-fixed_text places (pos n) = unsigned_text places n
-fixed_text places (negsuc n) = 45 ∷ unsigned_text places (suc n)
+fixed_text decimals (pos n) = unsigned_text decimals n
+fixed_text decimals (negsuc n) = 45 ∷ unsigned_text decimals (suc n)
 
--- both ends with 12 places and two points between
+-- both ends with 12 decimals and two points between
 unfoldable pub pair_text : ℤ → ℤ → List ℕ
 pair_text lo hi = fixed_text 12 lo ++ 46 ∷ 46 ∷ fixed_text 12 hi

@@ -1,3 +1,4 @@
 pub mod Decimal
 pub mod FixedPoint
 pub mod RoundTrip
+pub mod Whole

@@ -1,8 +1,13 @@
 -- Printing and reading agree.
-use Rattle.std.specs.Prelude.{◌≡◌, ℕ, ℤ, ◌≤◌, Ok, unsigned_abs}
+use Rattle.std.specs.Prelude.{◌≡◌, ℕ, ℤ, ◌^◌, ◌<◌, ◌≤◌, Ok, Some, decimal, unsigned_abs}
 use Rattle.dec_text.specs.Decimal.{decimal_of, largest}
 use Rattle.dec_text.specs.FixedPoint.{fixed_text}
+use Rattle.dec_text.specs.Whole.{whole_number}
 
--- what is printed with some count of places is read back with as many as the same number, where its size is one that is read
+-- what is printed with some count of decimals is read back with as many as the same number, where its magnitude is one that is read
 abbrev pub ReadsBack : Type 0
-ReadsBack = (places : ℕ) (number : ℤ) → unsigned_abs number ≤ largest → decimal_of places (fixed_text places number) ≡ Ok number
+ReadsBack = (decimals : ℕ) (number : ℤ) → unsigned_abs number ≤ largest → decimal_of decimals (fixed_text decimals number) ≡ Ok number
+
+-- the digits of a number below 10^most are read back as that number
+abbrev pub WholeReadsBack : Type 0
+WholeReadsBack = (most number : ℕ) → 0 < most → most ≤ 9 → number < 10 ^ most → whole_number most (decimal number) ≡ Some number

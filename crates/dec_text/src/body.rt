@@ -4,7 +4,7 @@ ghost use Rattle.std.specs.Prelude.{◌≡◌, ◌+◌, ◌<◌, ◌≤◌, ◌^
 ghost use Rattle.dec_text.specs.Decimal.{sign_len, is_blank, point_of, is_digit, stray_from};
 
 /// How many bytes the sign has.
-pub fn sign_of(text: &[u8]) -> usize
+pub(crate) fn sign_of(text: &[u8]) -> usize
     ensures is { result ≡ sign_len text.now }
     ensures within { result ≤ length text.now }
 {
@@ -14,14 +14,14 @@ pub fn sign_of(text: &[u8]) -> usize
     }
 }
 
-pub fn blank(body: &[u8]) -> bool
+pub(crate) fn blank(body: &[u8]) -> bool
     ensures { result ≡ is_blank body.now }
 {
     matches!(body, [] | [b'.'])
 }
 
-/// The place of the first point, or the length.
-pub fn point(body: &[u8]) -> usize
+/// The offset of the first point, or the length.
+pub(crate) fn point(body: &[u8]) -> usize
     ensures is { result ≡ point_of body.now }
     ensures within { result ≤ length body.now }
 {
@@ -35,8 +35,8 @@ fn first_point(body: &[u8]) -> Option<usize>
     body.iter().position(|b| *b == b'.')
 }
 
-/// The bytes behind the first point.
-pub fn behind(body: &[u8], point: usize) -> &[u8]
+/// The bytes after the first point.
+pub(crate) fn behind(body: &[u8], point: usize) -> &[u8]
     ensures { result.now ≡ drop (point + 1) body.now }
 {
     if point < body.len() {
@@ -46,12 +46,12 @@ pub fn behind(body: &[u8], point: usize) -> &[u8]
     }
 }
 
-/// The place of the first byte that is no digit, in a part that begins at `start`.
-pub fn stray(part: &[u8], start: usize) -> Option<usize>
+/// The offset of the first byte that is no digit, in a part that begins at the offset `start`.
+pub(crate) fn stray(part: &[u8], start: usize) -> Option<usize>
     requires { start + length part.now < 2 ^ 64 }
     ensures { result ≡ stray_from start part.now }
 {
-    first_stray(part).map(|place| start + place)
+    first_stray(part).map(|offset| start + offset)
 }
 
 fn first_stray(part: &[u8]) -> Option<usize>

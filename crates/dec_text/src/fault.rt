@@ -1,12 +1,12 @@
 /// Why a text is no decimal number.
 #[derive(Clone, Copy, Debug, PartialEq, Eq)]
 pub enum DecFault {
-    /// Nothing stands behind the sign, or a point alone.
+    /// Nothing follows the sign, or a point alone.
     Empty,
-    /// A byte is neither a digit nor the first point: its place in the whole text, counted from 0.
+    /// A byte is neither a digit nor the first point: its offset in the whole text.
     NotDigit(usize),
-    /// A digit other than 0 stands behind the last place.
+    /// A digit other than 0 follows the last decimal.
     TooManyPlaces,
-    /// The size, counted in the last place, is above 10^15.
+    /// The magnitude, counted in the last decimal, is above 10^15.
     TooLarge,
 }

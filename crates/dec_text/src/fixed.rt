@@ -1,4 +1,4 @@
-//! Printing numbers with a fixed count of places.
+//! Printing numbers with a fixed count of decimals.
 
 ghost use Rattle.std.specs.Prelude.{◌≡◌, ℕ, ◌+◌, ◌*◌, ◌^◌, ◌≤◌, ◌++◌, length, decimal, unsigned_abs};
 ghost use Rattle.arrayvec.specs.ArrayVec.{array_vec_len};
@@ -7,23 +7,23 @@ ghost use Rattle.dec_text.specs.FixedPoint.{fixed_text, unsigned_text, last_digi
 use arrayvec::ArrayVec;
 use itoa::Buffer;
 
-/// Appends the number, counted in its last place, as in `-0.125`: a `-` where it is below zero,
-/// the whole part, and where there are places, a point and so many digits.
-pub fn put_fixed(value: i128, places: u8, into: &mut ArrayVec<u8, 64>)
-    requires few { places ≤ 12 }
-    requires size { unsigned_abs value ≤ 10 ^ 30 }
+/// Appends the number, counted in its last decimal, as in `-0.125`: a `-` where it is below zero,
+/// the whole part, and where there are decimals, a point and so many digits.
+pub fn put_fixed(value: i128, decimals: u8, into: &mut ArrayVec<u8, 64>)
+    requires few { decimals ≤ 12 }
+    requires magnitude { unsigned_abs value ≤ 10 ^ 30 }
     requires room { array_vec_len into.old + 48 ≤ 64 }
-    ensures text { into.new.items ≡ into.old.items ++ fixed_text places value }
+    ensures text { into.new.items ≡ into.old.items ++ fixed_text decimals value }
     ensures short { array_vec_len into.new ≤ array_vec_len into.old + 45 }
 {
-    put_signed(value, places, into);
+    put_signed(value, decimals, into);
 }
 
-/// Appends both ends of an enclosure with 12 places each, as in `0.250000000000..0.250000000001`.
+/// Appends both ends of an enclosure with 12 decimals each, as in `0.250000000000..0.250000000001`.
 #[tactic(auto, unfolding(crate::specs::FixedPoint::pair_text))]
 pub fn put_pair(lo: i128, hi: i128, into: &mut ArrayVec<u8, 128>)
-    requires lo_size { unsigned_abs lo ≤ 10 ^ 30 }
-    requires hi_size { unsigned_abs hi ≤ 10 ^ 30 }
+    requires lo_magnitude { unsigned_abs lo ≤ 10 ^ 30 }
+    requires hi_magnitude { unsigned_abs hi ≤ 10 ^ 30 }
     requires room { array_vec_len into.old + 96 ≤ 128 }
     ensures text { into.new.items ≡ into.old.items ++ pair_text lo hi }
     ensures short { array_vec_len into.new ≤ array_vec_len into.old + 92 }
@@ -34,38 +34,38 @@ pub fn put_pair(lo: i128, hi: i128, into: &mut ArrayVec<u8, 128>)
     put_signed(hi, 12, into);
 }
 
-/// Appends a number that is counted in its last place.
-fn put_signed<const N: usize>(value: i128, places: u8, into: &mut ArrayVec<u8, N>)
-    requires few { places ≤ 12 }
-    requires size { unsigned_abs value ≤ 10 ^ 30 }
+/// Appends a number that is counted in its last decimal.
+fn put_signed<const N: usize>(value: i128, decimals: u8, into: &mut ArrayVec<u8, N>)
+    requires few { decimals ≤ 12 }
+    requires magnitude { unsigned_abs value ≤ 10 ^ 30 }
     requires room { array_vec_len into.old + 45 ≤ N }
-    ensures text { into.new.items ≡ into.old.items ++ fixed_text places value }
+    ensures text { into.new.items ≡ into.old.items ++ fixed_text decimals value }
     ensures short { array_vec_len into.new ≤ array_vec_len into.old + 45 }
 {
     if value < 0 {
         into.push(b'-');
     }
-    put_unsigned(value.unsigned_abs(), places, into);
+    put_unsigned(value.unsigned_abs(), decimals, into);
 }
 
-/// Appends a size that is counted in its last place.
-fn put_unsigned<const N: usize>(size: u128, places: u8, into: &mut ArrayVec<u8, N>)
-    requires few { places ≤ 12 }
-    requires size { size ≤ 10 ^ 30 }
+/// Appends a magnitude that is counted in its last decimal.
+fn put_unsigned<const N: usize>(magnitude: u128, decimals: u8, into: &mut ArrayVec<u8, N>)
+    requires few { decimals ≤ 12 }
+    requires magnitude { magnitude ≤ 10 ^ 30 }
     requires room { array_vec_len into.old + 44 ≤ N }
-    ensures text { into.new.items ≡ into.old.items ++ unsigned_text places size }
+    ensures text { into.new.items ≡ into.old.items ++ unsigned_text decimals magnitude }
     ensures short { array_vec_len into.new ≤ array_vec_len into.old + 44 }
 {
-    put_whole(size / 10u128.pow(u32::from(places)), into);
-    if places > 0 {
+    put_whole(magnitude / 10u128.pow(u32::from(decimals)), into);
+    if decimals > 0 {
         into.push(b'.');
-        put_last_digits(size, places, into);
+        put_last_digits(magnitude, decimals, into);
     }
 }
 
 /// Appends the digits before the point.
 fn put_whole<const N: usize>(whole: u128, into: &mut ArrayVec<u8, N>)
-    requires size { whole ≤ 10 ^ 30 }
+    requires magnitude { whole ≤ 10 ^ 30 }
     requires room { array_vec_len into.old + 31 ≤ N }
     ensures text { into.new.items ≡ into.old.items ++ decimal whole }
     ensures short { array_vec_len into.new ≤ array_vec_len into.old + 31 }

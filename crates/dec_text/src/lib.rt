@@ -5,12 +5,11 @@ mod body;
 mod fault;
 mod fixed;
 pub mod laws;
+mod magnitude;
 mod read;
-mod size;
+mod whole;
 
 pub use fault::DecFault;
 pub use fixed::{put_fixed, put_pair};
 pub use read::read_decimal;
-
-#[cfg(test)]
-mod tests;
+pub use whole::read_whole;

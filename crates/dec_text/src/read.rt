@@ -5,35 +5,35 @@ ghost use Rattle.dec_text.specs.Decimal.{is_minus, decimal_of, body_value, numbe
 
 use crate::body::{behind, blank, point, sign_of, stray};
 use crate::fault::DecFault;
-use crate::size::{LARGEST, more, size};
+use crate::magnitude::{LARGEST, magnitude, more};
 
-/// The number that the text writes with up to so many places, counted in the last of them:
-/// with 4 places `-12.5` is -125,000. One `+` or `-` may stand first, the digits before or
-/// behind the point may be missing (not both), and zeros behind the last place are let be.
+/// The number that the text writes with up to `decimals` decimals, counted in the last of them:
+/// with 4 decimals `-12.5` is -125,000. One `+` or `-` may stand first, the digits before or
+/// after the point may be missing (not both), and zeros after the last decimal are ignored.
 ///
 /// The error is the first that holds of, in this order: nothing but a sign and a point
-/// ([`DecFault::Empty`]), a strange byte ([`DecFault::NotDigit`]), a digit behind the last place
-/// ([`DecFault::TooManyPlaces`]), a size above 10^15 ([`DecFault::TooLarge`]).
+/// ([`DecFault::Empty`]), a byte that is no digit ([`DecFault::NotDigit`]), a digit after the last
+/// decimal ([`DecFault::TooManyPlaces`]), a magnitude above 10^15 ([`DecFault::TooLarge`]).
 #[tactic(auto, unfolding(crate::specs::Decimal::decimal_of))]
-pub fn read_decimal(text: &[u8], places: u8) -> Result<i64, DecFault>
-    requires { places ≤ 6 }
-    ensures { result ≡ decimal_of places text.now }
+pub fn read_decimal(text: &[u8], decimals: u8) -> Result<i64, DecFault>
+    requires { decimals ≤ 6 }
+    ensures { result ≡ decimal_of decimals text.now }
 {
     let sign = sign_of(text);
     value(
         &text[sign..],
-        usize::from(places),
+        usize::from(decimals),
         matches!(text, [b'-', ..]),
         sign,
     )
 }
 
-/// The number behind a sign of `sign` bytes.
+/// The number after a sign of `sign` bytes.
 #[tactic(auto, unfolding(crate::specs::Decimal::body_value))]
-fn value(body: &[u8], places: usize, minus: bool, sign: usize) -> Result<i64, DecFault>
-    requires few { places ≤ 6 }
+fn value(body: &[u8], decimals: usize, minus: bool, sign: usize) -> Result<i64, DecFault>
+    requires few { decimals ≤ 6 }
     requires room { sign + length body.now < 2 ^ 63 }
-    ensures { result ≡ body_value places minus sign body.now }
+    ensures { result ≡ body_value decimals minus sign body.now }
 {
     if blank(body) {
         return Err(DecFault::Empty);
@@ -41,28 +41,28 @@ fn value(body: &[u8], places: usize, minus: bool, sign: usize) -> Result<i64, De
     let point = point(body);
     let whole = &body[..point];
     let fraction = behind(body, point);
-    if let Some(place) = stray(whole, sign) {
-        return Err(DecFault::NotDigit(place));
+    if let Some(offset) = stray(whole, sign) {
+        return Err(DecFault::NotDigit(offset));
     }
-    if let Some(place) = stray(fraction, sign + point + 1) {
-        return Err(DecFault::NotDigit(place));
+    if let Some(offset) = stray(fraction, sign + point + 1) {
+        return Err(DecFault::NotDigit(offset));
     }
-    number(whole, fraction, places, minus)
+    number(whole, fraction, decimals, minus)
 }
 
-/// The number with these digits before and behind its point.
+/// The number with these digits before and after its point.
 #[tactic(auto, unfolding(crate::specs::Decimal::number_of))]
-fn number(whole: &[u8], fraction: &[u8], places: usize, minus: bool) -> Result<i64, DecFault>
-    requires { places ≤ 6 }
-    ensures { result ≡ number_of places minus whole.now fraction.now }
+fn number(whole: &[u8], fraction: &[u8], decimals: usize, minus: bool) -> Result<i64, DecFault>
+    requires { decimals ≤ 6 }
+    ensures { result ≡ number_of decimals minus whole.now fraction.now }
 {
-    if more(places, fraction) {
+    if more(decimals, fraction) {
         return Err(DecFault::TooManyPlaces);
     }
-    let size = size(places, whole, fraction);
-    if size > LARGEST {
+    let magnitude = magnitude(decimals, whole, fraction);
+    if magnitude > LARGEST {
         return Err(DecFault::TooLarge);
     }
-    let size = size as i64;
-    Ok(if minus { -size } else { size })
+    let magnitude = magnitude as i64;
+    Ok(if minus { -magnitude } else { magnitude })
 }

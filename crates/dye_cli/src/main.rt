@@ -1,5 +1,5 @@
-//! The program `dye`: the words of its command line, real files and standard output, handed to the one call that
-//! does all the work.
+//! The program `dye`: the words of its command line, real files and standard output, handed to the
+//! one call that does all the work.
 #![tactic(auto)]
 
 use dye_run::run;
@@ -9,10 +9,10 @@ use std::process::ExitCode;
 use std::rt::Env;
 use std::{env, io};
 
-/// The status where memory for the words is refused.
-const WANT_OF_MEMORY: u8 = 10;
+/// The status where the words take more memory than there is.
+const OUT_OF_MEMORY: u8 = 10;
 
-// The words behind the program's name. A word that is no text makes the call fail as a whole.
+// The words after the program's name. A word that is not UTF-8 makes the call fail as a whole.
 fn words_of<R: Env + AllocGlobal>(rt: &R) -> io::Result<Vec<String>> {
     let mut words = Vec::new(rt.alloc());
     for word in env::args(rt)?.skip(1) {
@@ -25,7 +25,7 @@ fn main(rt: HostRuntime) -> ExitCode {
     let words = match words_of(&rt) {
         Ok(words) => words,
         Err(error) if error.kind() == io::ErrorKind::OutOfMemory => {
-            return ExitCode::from(WANT_OF_MEMORY);
+            return ExitCode::from(OUT_OF_MEMORY);
         }
         Err(_) => Vec::new(rt.alloc()),
     };

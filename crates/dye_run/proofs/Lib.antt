@@ -1,9 +1,11 @@
-pub mod Puts
-pub mod Sizes
-pub mod Lines
-pub mod Ends
-pub mod KeepsEnclosing
-pub mod Table
-pub mod Colours
-pub mod Verdicts
-pub mod Listed
+mod Colours
+mod Diff
+mod DueReads
+mod Ends
+mod Judged
+mod Ks
+mod Lab
+mod Proper
+mod Table
+mod Verdicts
+mod Xyz

@@ -1,190 +1,117 @@
--- The table of statuses, read off how a call ended.
-use Rattle.std.proofs.Common.{◌<◌, [], ◌∷◌, true, false, lit≤, ◌≡◌, ◌⊎◌, ℕ, List, length, Option, Some, None, Result, Ok, Err, All, IsSome, refl, sym, ap, ◌∙◌, subst, inl, inr, IsSomeAnd, IfSome, ◌≤◌, arith}
-use Rattle.std.proofs.lemmas.Bool.{false≢true}
+-- What each status tells, read off the outcome of a call.
+use Rattle.std.proofs.Common.{◌≡◌, ◌⊎◌, ℕ, List, length, Option, Some, None, Result, Ok, IsTrue, IsSomeAnd, IfSome, refl, sym, ap, ◌∙◌, subst, inl, inr}
 use Rattle.shelf_io.specs.Contents.{Contents}
-use Rattle.dye_run.specs.Answers.{Answer, Evaluation, StandsFiner, base_unit, only}
-use Rattle.dye_run.specs.Asking.{Answers, Asking, IsDue, answers, asks, held_or_missing, result_of}
-use Rattle.dye_run.specs.Colours.{difference_answer, difference_evaluation}
-use Rattle.dye_run.specs.Commands.{◌>>=◌, asking_for, asking_of, book_from, curve_from, diff_answer, ks_answer, lab_answer, said, weights_from, xyz_answer}
+use Rattle.dye_run.specs.Asking.{Answers, Asking, answers, asks, held_or_missing, result_of}
+use Rattle.dye_run.specs.Commands.{asking_for, asking_of}
 use Rattle.dye_run.specs.Due.{Comes, within}
-use Rattle.dye_run.specs.Endings.{Ended, HasToSay, IsUnreadable, Leaves, LeavesFront, World, unreadable}
+use Rattle.dye_run.specs.Endings.{Ended, IsUnreadable, Leaves, Reaches, World}
 use Rattle.dye_run.specs.Endings as ended
 use Rattle.dye_run.specs.Forms.{Form, diff, ks, lab, xyz}
+use Rattle.dye_run.specs.Inputs.{book_from, tables_from}
+use Rattle.dye_run.specs.Outcome.{Outcome, conclusion_status, status_of, text_of, unreadable, usage, written_of}
 use Rattle.dye_run.specs.Statuses as table
-use Rattle.dye_run.specs.Statuses.{is_report_status}
-use Rattle.dye_run.specs.Texts.{unreadable_text, usage_text}
-use Rattle.dye_run.specs.Verdicts.{verdict_at, verdict_status}
-use Rattle.dye_run.specs.declared.verdict.Verdict.{Verdict}
-use Rattle.dye_run.specs.declared.verdict.Verdict.TheVariants.{Fail, Pass, Undecided}
-use Rattle.dye_run.proofs.Listed.{IsListed, IsSound}
-use Rattle.dye_run.proofs.Colours.{difference_stands, lab_stands, xyz_stands}
-use Rattle.dye_run.proofs.KeepsEnclosing.{ks_stands}
+use Rattle.dye_run.specs.Statuses.{Kind, kind_of}
+use Rattle.dye_run.specs.declared.statuses.Conclusion.{Conclusion}
+use Rattle.dye_run.specs.declared.statuses.Conclusion.TheVariants.{Judged, NoVerdict}
+use Rattle.metamerism.specs.declared.outcomes.Verdict.TheVariants.{Fail, Pass, Undecided}
+use Rattle.dye_run.proofs.Diff.{diff_proper}
+use Rattle.dye_run.proofs.Ks.{ks_proper}
+use Rattle.dye_run.proofs.Lab.{lab_proper}
+use Rattle.dye_run.proofs.Proper.{IsProper, proper_then, refusal, report}
+use Rattle.dye_run.proofs.Xyz.{xyz_proper}
 
--- what a command may answer over its files: a report, or the refusal of a file
-data IsSaid (a : Answer) : Type 0 where
-  report : is_report_status a.status ≡ true → a.written ≡ None → All StandsFiner a.shown → IsSaid a
-  refusal : a.status ≡ 3 → a.written ≡ None → IsSaid a
+-- what each command may come to
+form_proper : (contents : Option Contents) (form : Form) (o : Outcome) → Answers contents (asking_of form) o → IsProper o
+form_proper contents (ks words) o w = subst IsProper (sym w.2) (proper_then (book_from words.curves w.0) _ (ks_proper words))
+form_proper contents (xyz words) o w = subst IsProper (sym w.2.2) (proper_then (tables_from words.curves words.weights w.0 w.2.0) _ (xyz_proper words))
+form_proper contents (lab words) o w = subst IsProper (sym w.2.2) (proper_then (tables_from words.curves words.weights w.0 w.2.0) _ (lab_proper words))
+form_proper contents (diff words) o w = subst IsProper (sym w.2.2) (proper_then (tables_from words.curves words.weights w.0 w.2.0) _ (diff_proper words))
 
-said_then : {A : Type 0} (step : Result A (List ℕ)) (next : A → Result Answer (List ℕ)) → ((x : A) → IsSaid (said (next x))) → IsSaid (said (step >>= next))
-said_then (Ok x) next h = h x
-said_then (Err text) next h = refusal refl refl
-
-ks_said : (curves column : List ℕ) (came : Option (List ℕ)) → IsSaid (said (ks_answer curves column came))
-unfolding ks_answer
-ks_said curves column came =
-    said_then (book_from curves came) _ (λ book. said_then (curve_from curves column book) _ (λ curve. report refl refl (ks_stands 400 curve)))
-
-xyz_said : (curves column weights : List ℕ) (c w : Option (List ℕ)) → IsSaid (said (xyz_answer curves column weights c w))
-unfolding xyz_answer
-xyz_said curves column weights c w =
-    said_then (book_from curves c) _ (λ book. said_then (weights_from weights w) _ (λ light. said_then (curve_from curves column book) _ (λ curve. report refl refl (xyz_stands light curve))))
-
-lab_said : (curves column weights : List ℕ) (c w : Option (List ℕ)) → IsSaid (said (lab_answer curves column weights c w))
-unfolding lab_answer
-lab_said curves column weights c w =
-    said_then (book_from curves c) _ (λ book. said_then (weights_from weights w) _ (λ light. said_then (curve_from curves column book) _ (λ curve. report refl refl (lab_stands light curve))))
-
-verdict_reports : (v : Verdict) → is_report_status (verdict_status v) ≡ true
-verdict_reports Pass = refl
-verdict_reports Fail = refl
-verdict_reports Undecided = refl
-
-difference_said : (tolerance : Option ℕ) (e : Evaluation) → All StandsFiner (e ∷ []) → IsSaid (difference_answer tolerance e)
-difference_said None e h = report refl refl h
-difference_said (Some t) e h = report (verdict_reports (verdict_at t base_unit (e.at base_unit))) refl h
-
-diff_said : (curves standard sample weights : List ℕ) (l10 c10 : ℕ) (tolerance : Option ℕ) (c w : Option (List ℕ)) → 0 < l10 → 0 < c10 → IsSaid (said (diff_answer curves standard sample weights l10 c10 tolerance c w))
-unfolding diff_answer
-diff_said curves standard sample weights l10 c10 tolerance c w l k =
-    said_then (book_from curves c) _ (λ book. said_then (weights_from weights w) _ (λ light. said_then (curve_from curves standard book) _ (λ first. said_then (curve_from curves sample book) _ (λ second. difference_said tolerance (difference_evaluation l10 c10 tolerance light first second) (difference_stands l10 c10 tolerance light first second l k)))))
-
-form_said : (contents : Option Contents) (form : Form) (a : Answer) → IsSound form → Answers contents (asking_of form) a → IsSaid a
-form_said contents (ks curves column) a sound w = subst IsSaid (sym w.2) (ks_said curves column w.0)
-form_said contents (xyz curves column weights) a sound w = subst IsSaid (sym w.2.2) (xyz_said curves column weights w.0 w.2.0)
-form_said contents (lab curves column weights) a sound w = subst IsSaid (sym w.2.2) (lab_said curves column weights w.0 w.2.0)
-form_said contents (diff curves standard sample weights l10 c10 tolerance) a sound w =
-    subst IsSaid (sym w.2.2) (diff_said curves standard sample weights l10 c10 tolerance w.0 w.2.0 sound.0 sound.1)
-
--- a status that no report has
-not_report : (s k : ℕ) → s ≡ k → is_report_status k ≡ false → is_report_status s ≡ true → ⊥
-not_report s k e f t = false≢true (sym f ∙ sym (ap is_report_status e) ∙ t)
-
--- where the files are told, the answer is the one that they give
+-- where the files are known, the outcome is the one that they give
 same_came : (contents : Option Contents) (c : Contents) (name : List ℕ) (limit : ℕ) (came : Option (List ℕ)) → contents ≡ Some c → Comes contents name limit came → IsSomeAnd (c.file name) (λ bytes. came ≡ within limit bytes)
 same_came contents c name limit came e w =
-    let P : Option Contents → Type 0 = λ o. IfSome o (λ c. IsSomeAnd (c.file name) (λ bytes. came ≡ within limit bytes)) in subst P e w.told
+    let P : Option Contents → Type 0 = λ o. IfSome o (λ c. IsSomeAnd (c.file name) (λ bytes. came ≡ within limit bytes)) in subst P e w.known
 
-heard : (file : Option (List ℕ)) (name : List ℕ) (limit : ℕ) (came : Option (List ℕ)) (go : Option (List ℕ) → Result Answer (List ℕ)) (r : Result Answer (List ℕ)) → IsSomeAnd file (λ bytes. came ≡ within limit bytes) → held_or_missing name file (λ bytes. go (within limit bytes)) ≡ r → go came ≡ r
-heard None name limit came go r h e = absurd h
-heard (Some bytes) name limit came go r h e = ap go h ∙ e
+came_only : (file : Option (List ℕ)) (name : List ℕ) (limit : ℕ) (came : Option (List ℕ)) (go : Option (List ℕ) → Result Outcome (List ℕ)) (r : Result Outcome (List ℕ)) → IsSomeAnd file (λ bytes. came ≡ within limit bytes) → held_or_missing name file (λ bytes. go (within limit bytes)) ≡ r → go came ≡ r
+came_only None name limit came go r h e = absurd h
+came_only (Some bytes) name limit came go r h e = ap go h ∙ e
 
-pub only_answer : (contents : Option Contents) (c : Contents) (asking : Asking) (a b : Answer) → contents ≡ Some c → result_of c.file asking ≡ Ok a → Answers contents asking b → b ≡ a
-only_answer contents c (answers x) a b e r w = w ∙ cc
-only_answer contents c (asks name limit next) a b e r w =
-    only_answer contents c (next w.0) a b e (heard (c.file name) name limit w.0 (λ came. result_of c.file (next came)) (Ok a) (same_came contents c name limit w.0 e w.1) r) w.2
+only_outcome : (contents : Option Contents) (c : Contents) (asking : Asking) (o p : Outcome) → contents ≡ Some c → result_of c.file asking ≡ Ok o → Answers contents asking p → p ≡ o
+only_outcome contents c (answers x) o p e r w = w ∙ cc
+only_outcome contents c (asks name limit next) o p e r w =
+    only_outcome contents c (next w.0) o p e (came_only (c.file name) name limit w.0 (λ came. result_of c.file (next came)) (Ok o) (same_came contents c name limit w.0 e w.1) r) w.2
 
--- what a call has to say: the usage text, the answer of a command, or that a due file could not be read
-data IsOwed (reads_well : List ℕ → Type 0) (form : Option Form) (before after : World) (a : Answer) : Type 0 where
-  usage : form ≡ None → a ≡ only 1 usage_text → IsOwed reads_well form before after a
-  answer : IsSome form → Answers before.contents (asking_for form) a → IsSaid a → IsOwed reads_well form before after a
-  unread : (name : List ℕ) → IsUnreadable reads_well before.contents (asking_for form) before.read_faults after.read_faults name → a ≡ unreadable name → IsOwed reads_well form before after a
+-- the status of a report is of its kind
+report_kind : (c : Conclusion) → kind_of (conclusion_status c) ≡ table.report
+report_kind NoVerdict = refl
+report_kind (Judged Pass) = refl
+report_kind (Judged (Fail number)) = refl
+report_kind (Judged Undecided) = refl
 
-owed : (reads_well : List ℕ → Type 0) (form : Option Form) (before after : World) (a : Answer) → IsListed form → HasToSay reads_well (asking_for form) before after a → IsOwed reads_well form before after a
-owed rw None before after a listed (inl w) = usage refl w
-owed rw None before after a listed (inr u) = absurd u.1.due
-owed rw (Some f) before after a listed (inl w) = answer refl w (form_said before.contents f a listed w)
-owed rw (Some f) before after a listed (inr u) = unread u.0 u.1 u.2
+module _ (form : Option Form) (before after : World) (status : ℕ) where
+  -- what an outcome that was said tells, under its status
+  abbrev Told : Outcome → Type 0
+  Told o = status ≡ status_of o → Leaves before after (text_of o) (written_of o) → table.Tells form before after (kind_of status) status
 
-left_by : (before after : World) (a : Answer) (text : List ℕ) → a.text ≡ text → a.written ≡ None → Leaves before after a.text a.written → Leaves before after text None
-left_by before after a text t w l = subst (λ t. Leaves before after t None) t (subst (λ w. Leaves before after a.text w) w l)
+  -- the kind of a status that is known
+  by_kind : (k : Kind) (s : ℕ) → status ≡ s → kind_of s ≡ k → table.Tells form before after k status → table.Tells form before after (kind_of status) status
+  by_kind k s e h t = subst (λ k. table.Tells form before after k status) (sym (ap kind_of e ∙ h)) t
 
-module _ (reads_well : List ℕ → Type 0) (puts_well : ℕ → Type 0) (form : Option Form) (before after : World) (status : ℕ) (listed : IsListed form) where
-  report_owed : (a : Answer) → IsOwed reads_well form before after a → status ≡ a.status → is_report_status status ≡ true → Leaves before after a.text a.written → table.IsReport reads_well form before after status
-  report_owed a (usage n e) s z l = absurd (not_report status 1 (s ∙ ap (λ a. a.status) e) refl z)
-  report_owed a (answer f w (report k n v)) s z l = record { answer = a; answers = w; status = sym s; leaves = l; finer = v }
-  report_owed a (answer f w (refusal k n)) s z l = absurd (not_report status 3 (s ∙ k) refl z)
-  report_owed a (unread name u e) s z l = absurd (not_report status 2 (s ∙ ap (λ a. a.status) e) refl z)
+  told_proper : (o : Outcome) → IsProper o → Answers before.shelf.contents (asking_for form) o → Told o
+  told_proper o (report r e none finer) w =
+      subst (λ o. Answers before.shelf.contents (asking_for form) o → Told o) (sym e) (λ w s l.
+      by_kind table.report (conclusion_status r.conclusion) s (report_kind r.conclusion)
+      (record { report = r; answers = w; status = sym s; leaves = l; finer = finer })) w
+  told_proper o (refusal fault e) w =
+      subst (λ o. Answers before.shelf.contents (asking_for form) o → Told o) (sym e) (λ w s l.
+      by_kind table.refusal 3 s refl (record { fault = fault; answers = w; leaves = l })) w
 
-  pub report_ended : Ended reads_well puts_well form before after status → is_report_status status ≡ true → table.IsReport reads_well form before after status
-  report_ended (ended.spoke a due s l q) z = report_owed a (owed reads_well form before after a listed due) s z l
-  report_ended (ended.cut_off a due s l rose q) z = absurd (not_report status 4 s refl z)
-  report_ended (ended.wanted_memory s f l q) z = absurd (not_report status 10 s refl z)
+  told_unreadable : (o : Outcome) (name : List ℕ) → IsUnreadable (asking_for form) before.shelf after.shelf name → o ≡ unreadable name → Told o
+  told_unreadable o name u e =
+      subst Told (sym e) (λ s l. by_kind table.unreadable 2 s refl (record { name = name; fault = u; leaves = l }))
 
-  usage_owed : (a : Answer) → IsOwed reads_well form before after a → status ≡ a.status → status ≡ 1 → Leaves before after a.text a.written → table.IsUsage reads_well form before after
-  usage_owed a (usage n e) s z l = record { no_form = n; leaves = left_by before after a usage_text (ap (λ a. a.text) e) (ap (λ a. a.written) e) l }
-  usage_owed a (answer f w (report k n v)) s z l = absurd (not_report a.status 1 (sym s ∙ z) refl k)
-  usage_owed a (answer f w (refusal k n)) s z l = absurd (omega arith)
-  usage_owed a (unread name u e) s z l = let k : a.status ≡ 2 = ap (λ a. a.status) e in absurd (omega arith)
+  told_usage : (o : Outcome) → form ≡ None → o ≡ usage → Told o
+  told_usage o n e = subst Told (sym e) (λ s l. by_kind table.usage 1 s refl (record { no_form = n; leaves = l }))
 
-  pub usage_ended : Ended reads_well puts_well form before after status → status ≡ 1 → table.IsUsage reads_well form before after
-  usage_ended (ended.spoke a due s l q) z = usage_owed a (owed reads_well form before after a listed due) s z l
-  usage_ended (ended.cut_off a due s l rose q) z = absurd (omega arith)
-  usage_ended (ended.wanted_memory s f l q) z = absurd (omega arith)
+told : (form : Option Form) (before after : World) (status : ℕ) (o : Outcome) → Reaches (asking_for form) before.shelf after.shelf o → Told form before after status o
+told None before after status o (inl w) = told_usage None before after status o refl w
+told None before after status o (inr u) = absurd u.1.due
+told (Some f) before after status o (inl w) = told_proper (Some f) before after status o (form_proper before.shelf.contents f o w) w
+told (Some f) before after status o (inr u) = told_unreadable (Some f) before after status o u.0 u.1 u.2
 
-  unreadable_owed : (a : Answer) → IsOwed reads_well form before after a → status ≡ a.status → status ≡ 2 → Leaves before after a.text a.written → table.NamesUnreadable reads_well form before after
-  unreadable_owed a (usage n e) s z l = let k : a.status ≡ 1 = ap (λ a. a.status) e in absurd (omega arith)
-  unreadable_owed a (answer f w (report k n v)) s z l = absurd (not_report a.status 2 (sym s ∙ z) refl k)
-  unreadable_owed a (answer f w (refusal k n)) s z l = absurd (omega arith)
-  unreadable_owed a (unread name u e) s z l = record { name = name; fault = u; leaves = left_by before after a (unreadable_text name) (ap (λ a. a.text) e) (ap (λ a. a.written) e) l }
+tells_ended : (form : Option Form) (before after : World) (status : ℕ) → Ended form before after status → table.Tells form before after (kind_of status) status
+tells_ended form before after status (ended.spoke o reached s l) = told form before after status o reached s l
+tells_ended form before after status (ended.cut_off o reached s l unpromised) =
+    by_kind form before after status table.not_written 4 s refl (record { outcome = o; reached = reached; leaves = l })
+tells_ended form before after status (ended.out_of_memory s f l) =
+    by_kind form before after status table.out_of_memory 10 s refl (record { has_form = f; leaves = l })
 
-  pub unreadable_ended : Ended reads_well puts_well form before after status → status ≡ 2 → table.NamesUnreadable reads_well form before after
-  unreadable_ended (ended.spoke a due s l q) z = unreadable_owed a (owed reads_well form before after a listed due) s z l
-  unreadable_ended (ended.cut_off a due s l rose q) z = absurd (omega arith)
-  unreadable_ended (ended.wanted_memory s f l q) z = absurd (omega arith)
+-- where words have no form, the usage text was to be said
+no_form_ended : (form : Option Form) (before after : World) (status : ℕ) → Ended form before after status → form ≡ None → (status ≡ 1) ⊎ (status ≡ 4)
+no_form_ended None before after status (ended.spoke o (inl w) s l) n = inl (s ∙ ap status_of w)
+no_form_ended None before after status (ended.spoke o (inr u) s l) n = absurd u.1.due
+no_form_ended None before after status (ended.cut_off o reached s l unpromised) n = inr s
+no_form_ended None before after status (ended.out_of_memory s f l) n = cc
+no_form_ended (Some f) before after status e n = cc
 
-  refused_owed : (a : Answer) → IsOwed reads_well form before after a → status ≡ a.status → status ≡ 3 → Leaves before after a.text a.written → table.IsRefused reads_well form before after
-  refused_owed a (usage n e) s z l = let k : a.status ≡ 1 = ap (λ a. a.status) e in absurd (omega arith)
-  refused_owed a (answer f w (report k n v)) s z l = absurd (not_report a.status 3 (sym s ∙ z) refl k)
-  refused_owed a (answer f w (refusal k n)) s z l = record { answer = a; answers = w; status = k; leaves = left_by before after a a.text refl n l }
-  refused_owed a (unread name u e) s z l = let k : a.status ≡ 2 = ap (λ a. a.status) e in absurd (omega arith)
+pub status_tells : (form : Option Form) (before after : World) (status : ℕ) → Ended form before after status → table.StatusTells form before after status
+status_tells form before after status e = record { tells = tells_ended form before after status e; no_form = no_form_ended form before after status e }
 
-  pub refused_ended : Ended reads_well puts_well form before after status → status ≡ 3 → table.IsRefused reads_well form before after
-  refused_ended (ended.spoke a due s l q) z = refused_owed a (owed reads_well form before after a listed due) s z l
-  refused_ended (ended.cut_off a due s l rose q) z = absurd (omega arith)
-  refused_ended (ended.wanted_memory s f l q) z = absurd (omega arith)
+module _ (form : Option Form) (before after : World) (status : ℕ) where
+  said : (o p : Outcome) → p ≡ o → status ≡ status_of p → Leaves before after (text_of p) (written_of p) → table.IsSaid form before after o status
+  said o p e s l = inr (s ∙ ap status_of e, subst (λ o. Leaves before after (text_of o) (written_of o)) e l)
 
-  -- no answer has the status of a put that failed, or of want of memory
-  owed_not : (k : ℕ) → 4 ≤ k → is_report_status k ≡ false → (a : Answer) → IsOwed reads_well form before after a → a.status ≡ k → ⊥
-  owed_not k h t a (usage n e) z = let u : a.status ≡ 1 = ap (λ a. a.status) e in omega arith
-  owed_not k h t a (answer f w (report r n v)) z = not_report a.status k z t r
-  owed_not k h t a (answer f w (refusal r n)) z = omega arith
-  owed_not k h t a (unread name u e) z = let v : a.status ≡ 2 = ap (λ a. a.status) e in omega arith
+  pub complete_ended : Ended form before after status → table.IsComplete form before after status
+  complete_ended (ended.spoke p (inl w) s l) c o e r reads puts = said o p (only_outcome before.shelf.contents c (asking_for form) o p e r w) s l
+  complete_ended (ended.spoke p (inr u) s l) c o e r reads puts = absurd (reads u.0 u.1.due u.1.failed.rose)
+  complete_ended (ended.cut_off p due s l q) c o e r reads puts = absurd (puts l.counted.1)
+  complete_ended (ended.out_of_memory s f l) c o e r reads puts = inl s
 
-  pub not_written_ended : Ended reads_well puts_well form before after status → status ≡ 4 → table.IsNotWritten reads_well form before after
-  not_written_ended (ended.spoke a due s l q) z = absurd (owed_not 4 (lit≤ tt) refl a (owed reads_well form before after a listed due) (sym s ∙ z))
-  not_written_ended (ended.cut_off a due s l rose q) z = record { rose = rose; answer = a; due = due; leaves = l }
-  not_written_ended (ended.wanted_memory s f l q) z = absurd (omega arith)
-
-  pub memory_ended : Ended reads_well puts_well form before after status → status ≡ 10 → table.WantsMemory reads_well form before after
-  memory_ended (ended.spoke a due s l q) z = absurd (owed_not 10 (lit≤ tt) refl a (owed reads_well form before after a listed due) (sym s ∙ z))
-  memory_ended (ended.cut_off a due s l rose q) z = absurd (omega arith)
-  memory_ended (ended.wanted_memory s f l q) z = record { has_form = f; leaves = l }
-
-  no_form_owed : (a : Answer) → IsOwed reads_well form before after a → status ≡ a.status → form ≡ None → status ≡ 1
-  no_form_owed a (usage n e) s z = s ∙ ap (λ a. a.status) e
-  no_form_owed a (answer f w v) s z = cc
-  no_form_owed a (unread name u e) s z = absurd (subst (λ f. IsDue before.contents (asking_for f) name) z u.due)
-
-  pub no_form_ended : Ended reads_well puts_well form before after status → form ≡ None → (status ≡ 1) ⊎ (status ≡ 4)
-  no_form_ended (ended.spoke a due s l q) z = inl (no_form_owed a (owed reads_well form before after a listed due) s z)
-  no_form_ended (ended.cut_off a due s l rose q) z = inr s
-  no_form_ended (ended.wanted_memory s f l q) z = cc
-
-  answered : (a b : Answer) → b ≡ a → status ≡ b.status → Leaves before after b.text b.written → table.IsAnswered reads_well form before after a status
-  answered a b e s l = inr (s ∙ ap (λ a. a.status) e, subst (λ a. Leaves before after a.text a.written) e l)
-
-  pub complete_ended : Ended reads_well puts_well form before after status → table.IsComplete reads_well form before after status
-  complete_ended (ended.spoke b (inl w) s l q) c a e r reads puts = answered a b (only_answer before.contents c (asking_for form) a b e r w) s l
-  complete_ended (ended.spoke b (inr u) s l q) c a e r reads puts = absurd (reads u.0 u.1.due u.1.rose)
-  complete_ended (ended.cut_off b due s l rose q) c a e r reads puts = absurd (puts rose)
-  complete_ended (ended.wanted_memory s f l q) c a e r reads puts = inl s
-
-  pub reliable_ended : Ended reads_well puts_well form before after status → table.IsReliable reads_well form before after puts_well status
-  reliable_ended (ended.spoke b (inl w) s l q) c a e r reads puts =
-      let same = only_answer before.contents c (asking_for form) a b e r w in
-      (answered a b same s l, q (subst (λ a. puts_well (length a.text)) (sym same) puts))
-  reliable_ended (ended.spoke b (inr u) s l q) c a e r reads puts = absurd (u.1.unwell (reads u.0 u.1.due))
-  reliable_ended (ended.cut_off b (inl w) s l rose unwell) c a e r reads puts =
-      absurd (unwell (subst (λ a. puts_well (length a.text)) (sym (only_answer before.contents c (asking_for form) a b e r w)) puts))
-  reliable_ended (ended.cut_off b (inr u) s l rose unwell) c a e r reads puts = absurd (u.1.unwell (reads u.0 u.1.due))
-  reliable_ended (ended.wanted_memory s f l q) c a e r reads puts = (inl s, q)
+  pub reliable_ended : Ended form before after status → table.IsReliable form before after status
+  reliable_ended (ended.spoke p (inl w) s l) c o e r reads puts =
+      (said o p (only_outcome before.shelf.contents c (asking_for form) o p e r w) s l, l.counted)
+  reliable_ended (ended.spoke p (inr u) s l) c o e r reads puts = absurd (u.1.failed.unpromised (reads u.0 u.1.due))
+  reliable_ended (ended.cut_off p (inl w) s l unpromised) c o e r reads puts =
+      absurd (unpromised (subst (λ o. IsTrue (before.sink.puts_promised (length (text_of o)))) (sym (only_outcome before.shelf.contents c (asking_for form) o p e r w)) puts))
+  reliable_ended (ended.cut_off p (inr u) s l unpromised) c o e r reads puts = absurd (u.1.failed.unpromised (reads u.0 u.1.due))
+  reliable_ended (ended.out_of_memory s f l) c o e r reads puts = (inl s, l.counted)

@@ -1,9 +1,13 @@
--- What a command says.
-use Rattle.std.specs.Prelude.{ℕ, ◌*◌, ◌^◌, ◌<◌, List, [], ◌∷◌, ◌++◌, Option, None, IfSome, flat_map}
+-- What a report shows.
+use Rattle.std.specs.Prelude.{◌≡◌, ℕ, ◌*◌, ◌^◌, ◌<◌, List, [], ◌∷◌, ◌++◌, Option, None, IfSome, flat_map}
 use Rattle.interval_specs.specs.Ends.{Ends}
 use Rattle.interval_specs.specs.Encloses.{Encloses}
 use Rattle.dec_text.specs.FixedPoint.{pair_text}
-use Rattle.dye_run.specs.Verdicts.{IsTrueAt, verdict_at}
+use Rattle.metamerism.specs.Verdicts.{light_verdict}
+use Rattle.metamerism.specs.declared.outcomes.Verdict.TheVariants.{Fail, Pass}
+use Rattle.metamerism.specs.declared.outcomes.Verdict.{Verdict}
+use Rattle.dye_run.specs.declared.statuses.Conclusion.{Conclusion}
+use Rattle.dye_run.specs.declared.statuses.Conclusion.TheVariants.{NoVerdict}
 
 -- the base scale: a printed end counts so many parts of one
 abbrev pub base_unit : ℕ
@@ -20,9 +24,14 @@ pub record Evaluation : Type 0 where
 abbrev pub evaluation : List ℕ → (ℕ → Ends) → Evaluation
 evaluation label at = record { label = label; at = at; tolerance = None }
 
--- its verdict, by the ends at the base scale, is true of the ends at a finer scale n
+-- the verdict on its ends at scale n, against a tolerance
+abbrev pub verdict_on : Evaluation → ℕ → ℕ → Verdict
+verdict_on e tolerance n = light_verdict n tolerance 1 (e.at n)
+
+-- where it passes or fails by the ends at the base scale, it does so by those at a finer scale n
 abbrev pub VerdictStands : Evaluation → ℕ → Type 0
-VerdictStands e n = IfSome e.tolerance (λ t. IsTrueAt t n (e.at n) (verdict_at t base_unit (e.at base_unit)))
+VerdictStands e n = IfSome e.tolerance (λ t.
+    (verdict_on e t base_unit ≡ Pass → verdict_on e t n ≡ Pass) × (verdict_on e t base_unit ≡ Fail 1 → verdict_on e t n ≡ Fail 1))
 
 -- at every finer scale the enclosure lies within that at the base scale, and the verdict stands
 pub record StandsFiner (e : Evaluation) : Type 0 where
@@ -35,20 +44,17 @@ line_of e = e.label ++ 32 ∷ pair_text (e.at base_unit).lo (e.at base_unit).hi 
 
 -- a line for each
 abbrev pub lines_of : List Evaluation → List ℕ
-lines_of shown = flat_map line_of shown
+lines_of evaluations = flat_map line_of evaluations
 
--- a status, the text that goes to the sink, the evaluations that the text shows, and the name and the bytes of
--- the file that is written, where the command writes one
-pub record Answer : Type 0 where
-  pub status : ℕ
+-- a report: how it ends, its text, the evaluations that the text shows, and the name and the bytes of the file that is
+-- written, where the command writes one
+pub record Report : Type 0 where
+  pub conclusion : Conclusion
   pub text : List ℕ
-  pub shown : List Evaluation
+  pub evaluations : List Evaluation
   pub written : Option (List ℕ × List ℕ)
 
--- the answer that shows these evaluations and nothing else
-abbrev pub shows : List Evaluation → Answer
-shows shown = record { status = 0; text = lines_of shown; shown = shown; written = None }
-
--- an answer that is a text alone
-abbrev pub only : ℕ → List ℕ → Answer
-only status text = record { status = status; text = text; shown = []; written = None }
+-- the report that shows these evaluations and nothing else
+abbrev pub plain_report : List Evaluation → Report
+plain_report evaluations =
+    record { conclusion = NoVerdict; text = lines_of evaluations; evaluations = evaluations; written = None }

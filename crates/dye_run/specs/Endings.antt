@@ -1,85 +1,87 @@
 -- How a call of the program ends.
-use Rattle.std.specs.Prelude.{◌≡◌, ◌⊎◌, ℕ, ◌≤◌, List, [], Option, Some, None, IsSome, length}
+use Rattle.std.specs.Prelude.{◌≡◌, ◌⊎◌, ◌-◌, ℕ, ◌≤◌, List, [], Option, Some, None, IsSome, IsTrue, length, option_map, true}
 use Rattle.std.specs.Io.KnownBytes.{append_known}
-use Rattle.shelf_io.specs.Contents.{Contents, put_bytes, told_file}
-use Rattle.shelf_io.specs.Counts.{Rose}
-use Rattle.shelf_io.specs.Taking.{AddsFront}
-use Rattle.dye_run.specs.Answers.{Answer, only}
-use Rattle.dye_run.specs.Asking.{Answers, Asking, IsDue}
+use Rattle.shelf_io.specs.Changes.{OnlyChanges}
+use Rattle.shelf_io.specs.Contents.{Contents, write_bytes}
+use Rattle.shelf_io.specs.Counts.{CountsFailure}
+use Rattle.shelf_io.specs.Taking.{AddsPrefix}
+use Rattle.shelf_io.specs.View.{ShelfView, SinkView}
+use Rattle.dye_run.specs.Asking.{Answers, Asking, IsDue, MayTake}
 use Rattle.dye_run.specs.Commands.{asking_for}
+use Rattle.dye_run.specs.Due.{FailsToRead}
 use Rattle.dye_run.specs.Forms.{Form}
-use Rattle.dye_run.specs.Texts.{unreadable_text}
+use Rattle.dye_run.specs.Outcome.{Outcome, status_of, text_of, unreadable, written_of}
 
--- what a shelf and a sink tell at one moment: the files and the bytes taken, where they tell these, and the counts
--- of faults
+-- what is known of the shelf and of the sink at one moment
 pub record World : Type 0 where
-  pub contents : Option Contents
-  pub read_faults : List ℕ → ℕ
-  pub taken : Option (List ℕ)
-  pub put_faults : ℕ
+  pub shelf : ShelfView
+  pub sink : SinkView
 
--- the files after one of them was written, where one was
+-- the same, in a clause
+abbrev pub world : ShelfView → SinkView → World
+world shelf sink = record { shelf = shelf; sink = sink }
+
+-- the files after one of them was written, where one was: its bytes are taken from the room
 abbrev pub with_written : Option (List ℕ × List ℕ) → Option Contents → Option Contents
 with_written None contents = contents
-with_written (Some file) None = None
-with_written (Some file) (Some c) = Some (put_bytes file.0 file.1 c)
+with_written (Some file) contents = option_map (write_bytes file.0 file.1) contents
 
--- the sink took this text alone, and of the files this one alone was written
+-- the sink took this text alone and counted no failure, and of the files this one alone was written
 pub record Leaves (before after : World) (text : List ℕ) (written : Option (List ℕ × List ℕ)) : Type 0 where
-  pub taken : after.taken ≡ append_known before.taken text
-  pub contents : after.contents ≡ with_written written before.contents
+  pub taken : after.sink.taken ≡ append_known before.sink.taken text
+  pub counted : after.sink.faults ≡ before.sink.faults
+  pub contents : after.shelf.contents ≡ with_written written before.shelf.contents
 
--- the same, but the sink took a front of the text alone
-pub record LeavesFront (before after : World) (text : List ℕ) (written : Option (List ℕ × List ℕ)) : Type 0 where
-  pub taken : AddsFront before.taken after.taken text
-  pub contents : after.contents ≡ with_written written before.contents
+-- a put failed: the sink took a prefix of the text alone, and the rest is the same
+pub record LeavesPrefix (before after : World) (text : List ℕ) (written : Option (List ℕ × List ℕ)) : Type 0 where
+  pub taken : AddsPrefix before.sink.taken after.sink.taken text
+  pub counted : CountsFailure true before.sink.faults after.sink.faults
+  pub contents : after.shelf.contents ≡ with_written written before.shelf.contents
 
--- the file of this name was due and could not be read: the count of its failed reads rose in the call, and its
--- reads are not such as never fail
-pub record IsUnreadable (reads_well : List ℕ → Type 0) (contents : Option Contents) (asking : Asking) (before after : List ℕ → ℕ) (name : List ℕ) : Type 0 where
-  pub due : IsDue contents asking name
-  pub rose : Rose (before name) (after name)
-  pub unwell : reads_well name → ⊥
+-- the file of this name was due and could not be read
+pub record IsUnreadable (asking : Asking) (before after : ShelfView) (name : List ℕ) : Type 0 where
+  pub due : IsDue before.contents asking name
+  pub failed : FailsToRead before after name
 
--- the answer where a due file could not be read
-abbrev pub unreadable : List ℕ → Answer
-unreadable name = only 2 (unreadable_text name)
+-- the call comes to this: the outcome over what came of its reads, or that a due file could not be read
+abbrev pub Reaches : Asking → (before after : ShelfView) → Outcome → Type 0
+Reaches asking before after o =
+    Answers before.contents asking o
+    ⊎ ((name : List ℕ) × IsUnreadable asking before after name × (o ≡ unreadable name))
 
--- what the call has to say: the answer over what came of its reads, or that a due file could not be read
-abbrev pub HasToSay : (reads_well : List ℕ → Type 0) → Asking → (before after : World) → Answer → Type 0
-HasToSay reads_well asking before after a =
-    Answers before.contents asking a
-    ⊎ ((name : List ℕ) × IsUnreadable reads_well before.contents asking before.read_faults after.read_faults name × (a ≡ unreadable name))
+-- the statuses that are of no outcome: a put failed, and memory ran out
+abbrev pub not_written_status : ℕ
+not_written_status = 4
 
--- How a call ends: it said all that it had to say; or a put failed, and the sink took a front of that; or memory
--- was wanting for a command, and nothing was said. A sink that can take the text is not cut off, and counts no fault
-pub data Ended (reads_well : List ℕ → Type 0) (puts_well : ℕ → Type 0) (form : Option Form) (before after : World) (status : ℕ) : Type 0 where
-  spoke : (a : Answer)
-      → HasToSay reads_well (asking_for form) before after a
-      → status ≡ a.status
-      → Leaves before after a.text a.written
-      → (puts_well (length a.text) → after.put_faults ≡ before.put_faults)
-      → Ended reads_well puts_well form before after status
-  cut_off : (a : Answer)
-      → HasToSay reads_well (asking_for form) before after a
-      → status ≡ 4
-      → LeavesFront before after a.text a.written
-      → Rose before.put_faults after.put_faults
-      → (puts_well (length a.text) → ⊥)
-      → Ended reads_well puts_well form before after status
-  wanted_memory : status ≡ 10
+abbrev pub out_of_memory_status : ℕ
+out_of_memory_status = 10
+
+-- How a call ends: it printed the whole outcome; or a put failed, which was not promised to succeed, and the sink took a
+-- prefix of that; or memory ran out for a command, and nothing was printed
+pub data Ended (form : Option Form) (before after : World) (status : ℕ) : Type 0 where
+  spoke : (o : Outcome)
+      → Reaches (asking_for form) before.shelf after.shelf o
+      → status ≡ status_of o
+      → Leaves before after (text_of o) (written_of o)
+      → Ended form before after status
+  cut_off : (o : Outcome)
+      → Reaches (asking_for form) before.shelf after.shelf o
+      → status ≡ not_written_status
+      → LeavesPrefix before after (text_of o) (written_of o)
+      → (IsTrue (before.sink.puts_promised (length (text_of o))) → ⊥)
+      → Ended form before after status
+  out_of_memory : status ≡ out_of_memory_status
       → IsSome form
       → Leaves before after [] None
-      → after.put_faults ≡ before.put_faults
-      → Ended reads_well puts_well form before after status
+      → Ended form before after status
 
--- no count of failed reads fell, and where the files are told only those of due names, and of names that are not
--- held, rose
-pub record ReadsDue (contents : Option Contents) (asking : Asking) (before after : List ℕ → ℕ) : Type 0 where
-  pub grows : (n : List ℕ) → before n ≤ after n
-  pub others : (n : List ℕ) → (IsDue contents asking n → ⊥) → IsSome (told_file contents n) → after n ≡ before n
+-- the name that a command may write, and how many bytes at most: none of today's does
+abbrev pub written_by : Option Form → Option (List ℕ × ℕ)
+written_by form = None
 
--- what a shelf and a sink tell, by their members
-abbrev pub world_of : {H O : Type 0} → (H → Option Contents) → (H → List ℕ → ℕ) → (O → Option (List ℕ)) → (O → ℕ) → H → O → World
-world_of contents read_count taken fault_count shelf out =
-    record { contents = contents shelf; read_faults = read_count shelf; taken = taken out; put_faults = fault_count out }
+-- What a call changes: the shelf by reads of due files, of each no more than its limit and one byte, and by writes of the
+-- name that the command writes; and no count of the sink falls
+pub record Changes (form : Option Form) (before after : World) : Type 0 where
+  pub only : OnlyChanges (IsDue before.shelf.contents (asking_for form)) (written_by form) before.shelf after.shelf
+  pub taken : (n : List ℕ) → MayTake before.shelf.contents (asking_for form) n (after.shelf.handed n - before.shelf.handed n)
+  pub puts : before.sink.faults ≤ after.sink.faults

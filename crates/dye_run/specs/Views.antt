@@ -1,29 +1,44 @@
--- What the commands of the code stand for.
-use Rattle.dye_run.specs.declared.words.Command.{Command}
-use Rattle.dye_run.specs.declared.words.Command.TheVariants as code
-use Rattle.dye_run.specs.declared.commands.Question.{Question}
-use Rattle.dye_run.specs.declared.commands.Question.TheVariants as asked
-use Rattle.std.specs.Prelude.{ℕ, List, Option, Result}
-use Rattle.dye_run.specs.Answers.{Answer}
-use Rattle.dye_run.specs.Asking.{Asking}
-use Rattle.dye_run.specs.Commands.{asks_both, diff_answer, lab_answer, said, xyz_answer}
+-- What the commands and the inputs of the code stand for.
+use Rattle.dye_run.specs.declared.command.Command.{Command}
+use Rattle.dye_run.specs.declared.command.Command.TheVariants as code
+use Rattle.dye_run.specs.declared.commands.diff.Diff.{Diff}
+use Rattle.dye_run.specs.declared.commands.ks.Ks.{Ks}
+use Rattle.dye_run.specs.declared.tables.Tables.{Tables}
+use Rattle.dye_run.specs.declared.tolerance.Tolerance.{Tolerance}
+use Rattle.dye_run.specs.declared.words.LitColumn.{LitColumn}
+use Rattle.std.specs.Prelude.{ℕ, Option, option_map}
+use Rattle.dye_run.specs.Diff.{DiffWords}
 use Rattle.dye_run.specs.Forms.{Form, diff, ks, lab, xyz}
+use Rattle.dye_run.specs.Inputs as inputs
+use Rattle.dye_run.specs.Ks.{KsWords}
+use Rattle.dye_run.specs.Words as words
+
+abbrev pub ks_view : Ks → KsWords
+ks_view c = record { curves = c.curves.now; column = c.column.now }
+
+abbrev pub lit_view : LitColumn → words.LitColumn
+lit_view c = record { curves = c.curves.now; column = c.column.now; weights = c.weights.now }
+
+abbrev pub tolerance_view : Option Tolerance → Option ℕ
+tolerance_view tolerance = option_map (λ t. t.thousandths) tolerance
+
+abbrev pub diff_view : Diff → DiffWords
+diff_view c = record {
+  curves = c.curves.now;
+  standard = c.standard.now;
+  sample = c.sample.now;
+  weights = c.weights.now;
+  l10 = c.rule.l10;
+  c10 = c.rule.c10;
+  tolerance = tolerance_view c.tolerance;
+}
 
 abbrev pub form_view : Command → Form
-form_view (code.Ks curves column) = ks curves.now column.now
-form_view (code.Xyz curves column weights) = xyz curves.now column.now weights.now
-form_view (code.Lab curves column weights) = lab curves.now column.now weights.now
-form_view (code.Diff curves standard sample weights rule tolerance) =
-    diff curves.now standard.now sample.now weights.now rule.l10 rule.c10 tolerance
+form_view (code.Ks c) = ks (ks_view c)
+form_view (code.Xyz c) = xyz (lit_view c)
+form_view (code.Lab c) = lab (lit_view c)
+form_view (code.Diff c) = diff (diff_view c)
 
--- the answer to a question, from what came of the curve file and of the weights file
-abbrev pub question_answer : Question → (curves weights : List ℕ) → (curves_came weights_came : Option (List ℕ)) → Result Answer (List ℕ)
-question_answer (asked.Xyz column) curves weights = xyz_answer curves column.now weights
-question_answer (asked.Lab column) curves weights = lab_answer curves column.now weights
-question_answer (asked.Diff standard sample rule tolerance) curves weights =
-    diff_answer curves standard.now sample.now weights rule.l10 rule.c10 tolerance
-
--- what a question asks for
-abbrev pub question_asking : Question → (curves weights : List ℕ) → Asking
-question_asking question curves weights =
-    asks_both curves weights (λ curves_came weights_came. said (question_answer question curves weights curves_came weights_came))
+-- the curves and the weights that were read
+abbrev pub tables_view : Tables → inputs.Tables
+tables_view tables = record { book = tables.book; light = tables.light }

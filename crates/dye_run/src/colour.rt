@@ -1,6 +1,9 @@
 ghost use Rattle.std.specs.Prelude.{◌≡◌, ◌^◌};
 ghost use Rattle.interval_specs.specs.Ends.{IsHeld};
-ghost use Rattle.dye_run.specs.Colours.{curve_difference, curve_lab, curve_ratios};
+ghost use Rattle.fix_bounds.specs.Ratios.{ratio_ends};
+ghost use Rattle.cielab_bounds.specs.Lab.{lab_ends};
+ghost use Rattle.dye_run.specs.Diff.{curve_difference};
+ghost use Rattle.dye_run.specs.Colours.{curve_lab, curve_ratios};
 
 use cielab_bounds::{Difference, Lab, lab};
 use cmc_bounds::{Cmc, delta};
@@ -10,17 +13,15 @@ use tristimulus::ratios;
 
 /// The tristimulus ratios of a curve under a light.
 pub(crate) fn curve_ratios(light: &Weights, curve: &Curve) -> Ratios<Base>
-    ensures { record { x = result.x; y = result.y; z = result.z } ≡ curve_ratios light.now curve.now (10 ^ 12) }
+    ensures { ratio_ends result ≡ curve_ratios light.now curve.now (10 ^ 12) }
 {
     let sample = curve.spectrum();
-    // that there are as many as the curve has
-    let _ = light.waves();
     ratios(&sample, light)
 }
 
 /// The CIELAB coordinates of a curve under a light.
 pub(crate) fn colour(light: &Weights, curve: &Curve) -> Lab<Base>
-    ensures { record { l = result.l; a = result.a; b = result.b } ≡ curve_lab light.now curve.now (10 ^ 12) }
+    ensures { lab_ends result ≡ curve_lab light.now curve.now (10 ^ 12) }
 {
     lab(&curve_ratios(light, curve))
 }

@@ -1,17 +1,18 @@
-//! All that the program `dye` does, from the words of its command line to its status: one public call, generic over
-//! the shelf that it reads and the sink that it speaks to.
+//! All that the program `dye` does, from the words of its command line to its status: one public
+//! call, generic over the shelf that it reads and the sink that it writes to.
 #![tactic(auto)]
 
 mod colour;
+mod command;
 mod commands;
-mod delivery;
-mod kubelka_munk;
-mod reading;
-mod reply;
+mod inputs;
+mod lines;
 mod report;
+mod statuses;
+mod stop;
 mod tables;
+mod tolerance;
 mod top;
-mod verdict;
 mod words;
 
 pub use top::run;

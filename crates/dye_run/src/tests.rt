@@ -9,11 +9,14 @@ use std::test::Fail;
 const HEADER: &str = "nm,p100,p50,p30,p12,p6,p08,p001";
 
 const USAGE: &str =
-    "usage: dye ks CURVES COLUMN\n       dye xyz CURVES COLUMN WEIGHTS\n       dye lab CURVES COLUMN WEIGHTS\n       dye diff CURVES STANDARD SAMPLE WEIGHTS L10 C10 [TOL]\n";
+    "usage: dye ks CURVES COLUMN\n       dye xyz CURVES COLUMN WEIGHTS\n\
+    \x20      dye lab CURVES COLUMN WEIGHTS\n\
+    \x20      dye diff CURVES STANDARD SAMPLE WEIGHTS L10 C10 [TOL]\n";
 
 const FLAT: &str = "100,50,30,12.5,6.4,0.8,0.01";
 
-/// A curve file: a header, the values at 400 nm, and the same values at each of the wavelengths up to the last.
+/// A curve file: a header, the values at 400 nm, and the same values at each of the wavelengths up
+/// to the last.
 fn curve_file(
     alloc: Global,
     header: &str,
@@ -164,7 +167,7 @@ struct Files {
     pick: String,
 }
 
-/// The values at 400, 500 and 600 nm, and the others, behind a header.
+/// The values at 400, 500 and 600 nm, and the others, after a header.
 fn picked(
     alloc: Global,
     header: &str,
@@ -222,23 +225,28 @@ fn colours_and_differences(rt: HostRuntime) -> Result<(), Fail> {
     for (line, want) in [
         (
             "xyz flat.csv p12 w.csv",
-            "0 X/Xn 0.125000000000..0.125000000000\nY/Yn 0.125000000000..0.125000000000\nZ/Zn 0.125000000000..0.125000000000\n",
+            "0 X/Xn 0.125000000000..0.125000000000\nY/Yn 0.125000000000..0.125000000000\n\
+             Z/Zn 0.125000000000..0.125000000000\n",
         ),
         (
             "lab flat.csv p100 w.csv",
-            "0 L 100.000000000000..100.000000000000\na 0.000000000000..0.000000000000\nb 0.000000000000..0.000000000000\n",
+            "0 L 100.000000000000..100.000000000000\na 0.000000000000..0.000000000000\n\
+             b 0.000000000000..0.000000000000\n",
         ),
         (
             "lab flat.csv p12 w.csv",
-            "0 L 42.000000000000..42.000000000000\na 0.000000000000..0.000000000000\nb 0.000000000000..0.000000000000\n",
+            "0 L 42.000000000000..42.000000000000\na 0.000000000000..0.000000000000\n\
+             b 0.000000000000..0.000000000000\n",
         ),
         (
             "lab three.csv q1 pick.csv",
-            "0 L 42.000000000000..42.000000000000\na 30.000000000000..30.000000000000\nb 40.000000000000..40.000000000000\n",
+            "0 L 42.000000000000..42.000000000000\na 30.000000000000..30.000000000000\n\
+             b 40.000000000000..40.000000000000\n",
         ),
         (
             "lab flat.csv p08 w.csv",
-            "0 L 7.226370370364..7.226370370480\na -0.000000000500..0.000000000500\nb -0.000000000200..0.000000000200\n",
+            "0 L 7.226370370364..7.226370370480\na -0.000000000500..0.000000000500\n\
+             b -0.000000000200..0.000000000200\n",
         ),
         (
             "diff flat.csv p12 p6 w.csv 20 10",
@@ -311,7 +319,8 @@ fn other_weights(rt: HostRuntime) -> Result<(), Fail> {
     let flat = curve_file(alloc, HEADER, FLAT, FLAT, 700)?;
     let ones = "1,1,1";
     let same =
-        "0 X/Xn 0.125000000000..0.125000000000\nY/Yn 0.125000000000..0.125000000000\nZ/Zn 0.125000000000..0.125000000000\n";
+        "0 X/Xn 0.125000000000..0.125000000000\nY/Yn 0.125000000000..0.125000000000\n\
+         Z/Zn 0.125000000000..0.125000000000\n";
     let header = "nm,X,Y,Z";
     for (head, at, other, end, want) in [
         (
@@ -333,7 +342,8 @@ fn other_weights(rt: HostRuntime) -> Result<(), Fail> {
             ["0,0,1", "0,1,0", "-1,0,0"],
             "0,0,0",
             "white,1,1,1\n",
-            "0 X/Xn 0.000000000000..0.000000000000\nY/Yn 0.125000000000..0.125000000000\nZ/Zn 0.125000000000..0.125000000000\n",
+            "0 X/Xn 0.000000000000..0.000000000000\nY/Yn 0.125000000000..0.125000000000\n\
+             Z/Zn 0.125000000000..0.125000000000\n",
         ),
         (
             header,
@@ -410,8 +420,8 @@ fn no_words_and_a_long_file(rt: HostRuntime) -> Result<(), Fail> {
     Ok(())
 }
 
-/// `ks flat.csv p50` where the shelf's and the sink's calls of these numbers fail: the status and the text. The file
-/// stays as it was.
+/// `ks flat.csv p50` where the shelf's and the sink's calls of these numbers fail: the status and
+/// the text. The file stays as it was.
 fn ks_under_faults(
     rt: &impl Abort,
     alloc: Global,
@@ -442,7 +452,7 @@ fn what_stands_after_a_fault(rt: HostRuntime) -> Result<(), Fail> {
     assert_eq!(rt; all.len(), 1085);
     let unreadable = "unreadable flat.csv\n";
     for (shelf_call, sink_call, most, status, text) in [
-        // a failed read, and reads behind the last one
+        // a failed read, and reads after the last one
         (1, 9, 0, 2, unreadable),
         (2, 9, 0, 2, unreadable),
         (3, 9, 0, 0, all.as_str()),

@@ -1,8 +1,7 @@
 pub mod Passed
-pub mod Places
-pub mod Rounding
-pub mod Ratio
-pub mod LongDivision
-pub mod UnitFloor
-pub mod Choices
-pub mod Rounded
+mod Levels
+mod Rounding
+mod LongDivision
+mod UnitFloor
+mod Choices
+mod Rounded

@@ -51,12 +51,12 @@ low_is l = omega arith
 
 pub digits_is : (n x : ℕ) → 0 < n → high_of x / n * 18446744073709551616 + rest_of n x ≡ x / n
 digits_is n x some =
-    let front = high_of x / n * 18446744073709551616 + second_of n x / n * 1099511627776 + third_of n x / n * 65536 in
-    let is : front * n + fourth_of n x ≡ x =
+    let leading = high_of x / n * 18446744073709551616 + second_of n x / n * 1099511627776 + third_of n x / n * 65536 in
+    let is : leading * n + fourth_of n x ≡ x =
     joined n (high_of x) (low_of x) (second_of n x) (third_of n x) (fourth_of n x) (high_of x / n) (second_of n x / n) (third_of n x / n) (high_of x % n) (second_of n x % n) (third_of n x % n)
     (low_of x / 1099511627776) (low_of x / 65536 % 16777216) (low_of x % 65536) (div-add-mod' (high_of x) n) refl (div-add-mod' (second_of n x) n) refl (div-add-mod' (third_of n x) n) refl (low_is (low_of x))
     ∙ div-add-mod' x 18446744073709551616 in
-    regroup (high_of x / n * 18446744073709551616) (second_of n x / n * 1099511627776) (third_of n x / n * 65536) (fourth_of n x / n) ∙ sym (mul-add-div_right some front (fourth_of n x)) ∙ ap (λ (z : ℕ). z / n) is
+    regroup (high_of x / n * 18446744073709551616) (second_of n x / n * 1099511627776) (third_of n x / n * 65536) (fourth_of n x / n) ∙ sym (mul-add-div_right some leading (fourth_of n x)) ∙ ap (λ (z : ℕ). z / n) is
   where
     regroup : (a b c d : ℕ) → a + (b + c + d) ≡ a + b + c + d
     regroup a b c d = omega arith

@@ -17,7 +17,11 @@ passed_is z h = to_z-of_z w128 z (record { sfits = h })
 pub read : (r z : ℤ) → mag r < 2 ^ 127 → r ≡ z → passed r ≡ z
 read r z h e = passed_is r h ∙ e
 
--- a value whose size is known to leave room
+-- the magnitude of a call's result that is known to be z
+pub read_magnitude : (u : ℕ) (r z : ℤ) → mag r < 2 ^ 127 → r ≡ z → u ≡ unsigned_abs (passed r) → u ≡ unsigned_abs z
+read_magnitude u r z h e k = k ∙ ap unsigned_abs (read r z h e)
+
+-- a value whose magnitude is known to leave room
 pub fits : (z : ℤ) (k : ℕ) → unsigned_abs z ≤ k → k < 2 ^ 127 → FitsSigned w128 z
 fits z k h s = fits_signed_from_abs w128 z (lt_of_le_of_lt h s)
 

@@ -4,9 +4,8 @@ use Rattle.std.proofs.lemmas.Int.{to_z-of_z, ints, fits_signed_from_abs}
 use Rattle.std.specs.Int.{w128, int_div_euclid}
 use lib.Signed.{lt_z}
 use Rattle.interval_specs.specs.Rounding.{floor_over, ceil_over}
-use Rattle.interval_specs.proofs.Order.{size_is, size_positive}
-use Rattle.interval_specs.proofs.Sizes.{floor_turned, floor_small}
-use Rattle.interval_specs.proofs.Rounds.{ceil_here, ceil_next, div_euclid_is}
+use Rattle.interval_specs.proofs.Order.{magnitude_is, magnitude_positive}
+use Rattle.interval_specs.proofs.Rounds.{floor_turned, floor_small, ceil_here, ceil_next, div_euclid_is}
 use Rattle.fix_bounds.proofs.Passed.{passed}
 
 -- the quotient of two values that are passed
@@ -37,14 +36,14 @@ product_room f z n g =
 -- the floor is no larger than the dividend
 pub floor_room : (f z n : ℤ) → Given f z n → unsigned_abs f ≤ 10 ^ 37
 floor_room f z n g =
-    let some = size_positive n g.positive in
+    let some = magnitude_positive n g.positive in
     let wide : unsigned_abs z ≤ 10 ^ 37 * unsigned_abs n = omega (arith, g.room, le-mul_of_pos_right (10 ^ 37) some) in
     subst (λ x. unsigned_abs x ≤ 10 ^ 37) (sym g.from_floor) (floor_small z (unsigned_abs n) (10 ^ 37) some wide)
 
 -- the test of the code
 pub test_is : (f z n : ℤ) → Given f z n → lt_z (passed (passed f *ℤ passed n)) (passed z) ≡ lt_z (f *ℤ pos (unsigned_abs n)) z
 test_is f z n g =
-    let product = ap passed (passed_product f n g.f_fits g.n_fits) ∙ to_z-of_z w128 (f *ℤ n) (product_room f z n g) ∙ ap (λ x. f *ℤ x) (size_is n g.positive) in
+    let product = ap passed (passed_product f n g.f_fits g.n_fits) ∙ to_z-of_z w128 (f *ℤ n) (product_room f z n g) ∙ ap (λ x. f *ℤ x) (magnitude_is n g.positive) in
     λ i. lt_z (product i) (to_z-of_z w128 z g.z_fits i)
 
 -- where the product is below z
@@ -54,11 +53,11 @@ next_is f z n g t =
     let h : (f *ℤ pos (unsigned_abs n)) <ℤ z = omega (arith, ints) in
     let k = floor_room f z n g in
     let fits : FitsSigned w128 (f +ℤ pos 1) = omega (arith, ints) in
-    ap (λ x. passed (x +ℤ pos 1)) (to_z-of_z w128 f g.f_fits) ∙ to_z-of_z w128 (f +ℤ pos 1) fits ∙ ceil_next f z (unsigned_abs n) (size_positive n g.positive) g.from_floor h
+    ap (λ x. passed (x +ℤ pos 1)) (to_z-of_z w128 f g.f_fits) ∙ to_z-of_z w128 (f +ℤ pos 1) fits ∙ ceil_next f z (unsigned_abs n) (magnitude_positive n g.positive) g.from_floor h
 
 -- where it is not
 pub here_is : (f z n : ℤ) → Given f z n → lt_z (passed (passed f *ℤ passed n)) (passed z) ≡ false → passed f ≡ ceil_over z (unsigned_abs n)
 here_is f z n g t =
     let above : lt_z (f *ℤ pos (unsigned_abs n)) z ≡ false = sym (test_is f z n g) ∙ t in
     let h : z ≤ℤ (f *ℤ pos (unsigned_abs n)) = omega (arith, ints) in
-    to_z-of_z w128 f g.f_fits ∙ ceil_here f z (unsigned_abs n) (size_positive n g.positive) g.from_floor h
+    to_z-of_z w128 f g.f_fits ∙ ceil_here f z (unsigned_abs n) (magnitude_positive n g.positive) g.from_floor h

@@ -1,11 +1,11 @@
--- The floor over a natural number from the quotient of a size, as the code takes it.
+-- The floor over a natural number from the quotient of a magnitude, as the code takes it.
 use Rattle.std.proofs.Common.{ℕ, ℤ, pos, negsuc, true, false, ◌≡◌, ◌/◌, ◌<◌, ◌≤◌, ◌^◌, ◌∙◌, ◌-ℤ◌, ◌≤ℤ◌, neg_ℤ, FitsSigned, unsigned_abs, arith, ap, sym, div-le_self, le-mul_of_pos_right, lit<, ◌<ℤ◌}
 use Rattle.std.proofs.lemmas.Int.{to_z-of_z, to_z_pos, ints}
 use Rattle.std.specs.Int.{w128}
 use mir.Val.{to_z}
 use lib.Signed.{le_z}
 use Rattle.interval_specs.specs.Rounding.{floor_over, ceil_over}
-use Rattle.interval_specs.proofs.Sizes.{floor_small}
+use Rattle.interval_specs.proofs.Rounds.{floor_small}
 use Rattle.fix_bounds.proofs.Passed.{passed, read_neg, neg_fits}
 
 above_is : (z : ℤ) (n : ℕ) → FitsSigned w128 z → pos 0 ≤ℤ z → to_z w128 (unsigned_abs z / n) ≡ floor_over z n

@@ -1,1 +1,2 @@
 pub mod CanRound
+pub mod Ratios

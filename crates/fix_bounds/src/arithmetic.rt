@@ -1,6 +1,6 @@
 //! The operations on intervals, each rounded outwards once.
 ghost use Rattle.std.specs.Prelude.{◌≡◌, ℕ, pos, ◌+◌, ◌*◌, ◌^◌, ◌<◌, ◌≤◌, ◌<ℤ◌, unsigned_abs};
-ghost use Rattle.interval_specs.specs.Ends.{IsHeld, size_of};
+ghost use Rattle.interval_specs.specs.Ends.{IsHeld, magnitude_of};
 ghost use Rattle.interval_specs.specs.Operations.{sum_of, difference_of, product_at, quotient_at, square_at, multiple_of, fraction_of, absolute_of, cut_low_at, cut_high_at, hull_of};
 
 use crate::digits::{ceil_unit, floor_unit};
@@ -11,7 +11,7 @@ use crate::scale::Scale;
 impl<S: Scale> Iv<S> {
     /// The sum of the two.
     pub fn add(self, other: Iv<S>) -> Iv<S>
-        requires { size_of self + size_of other ≤ 10 ^ 25 }
+        requires { magnitude_of self + magnitude_of other ≤ 10 ^ 25 }
         ensures is { result ≡ sum_of self other }
         ensures held { IsHeld result }
     {
@@ -20,7 +20,7 @@ impl<S: Scale> Iv<S> {
 
     /// The difference of the two.
     pub fn sub(self, other: Iv<S>) -> Iv<S>
-        requires { size_of self + size_of other ≤ 10 ^ 25 }
+        requires { magnitude_of self + magnitude_of other ≤ 10 ^ 25 }
         ensures is { result ≡ difference_of self other }
         ensures held { IsHeld result }
     {
@@ -29,7 +29,7 @@ impl<S: Scale> Iv<S> {
 
     /// The product of the two.
     pub fn mul(self, other: Iv<S>) -> Iv<S>
-        requires { size_of self * size_of other ≤ 10 ^ 25 * S.unit }
+        requires { magnitude_of self * magnitude_of other ≤ 10 ^ 25 * S.unit }
         ensures is { result ≡ product_at S.unit self other }
         ensures held { IsHeld result }
     {
@@ -40,7 +40,7 @@ impl<S: Scale> Iv<S> {
     /// The quotient of the two. The divisor lies above 0.
     pub fn div(self, by: Iv<S>) -> Iv<S>
         requires positive { pos 0 <ℤ by.lo }
-        requires size { size_of self * S.unit ≤ 10 ^ 25 * unsigned_abs by.lo }
+        requires magnitude { magnitude_of self * S.unit ≤ 10 ^ 25 * unsigned_abs by.lo }
         ensures is { result ≡ quotient_at S.unit self by }
         ensures held { IsHeld result }
     {
@@ -53,13 +53,13 @@ impl<S: Scale> Iv<S> {
 
     /// The square.
     pub fn square(self) -> Iv<S>
-        requires { size_of self * size_of self ≤ 10 ^ 25 * S.unit }
+        requires { magnitude_of self * magnitude_of self ≤ 10 ^ 25 * S.unit }
         ensures is { result ≡ square_at S.unit self }
         ensures held { IsHeld result }
     {
-        let size = self.abs();
-        let least = size.lo();
-        let greatest = size.hi();
+        let magnitude = self.abs();
+        let least = magnitude.lo();
+        let greatest = magnitude.hi();
         Self::of_ends(
             floor_unit::<S>(least * least),
             ceil_unit::<S>(greatest * greatest),
@@ -68,7 +68,7 @@ impl<S: Scale> Iv<S> {
 
     /// `k` times the interval.
     pub fn scale_by(self, k: i64) -> Iv<S>
-        requires { size_of self * unsigned_abs k ≤ 10 ^ 25 }
+        requires { magnitude_of self * unsigned_abs k ≤ 10 ^ 25 }
         ensures is { result ≡ multiple_of k self }
         ensures held { IsHeld result }
     {
@@ -81,8 +81,8 @@ impl<S: Scale> Iv<S> {
     /// The fraction `num / den` of the interval.
     pub fn ratio_up(self, num: u64, den: u64) -> Iv<S>
         requires positive { 0 < den }
-        requires room { size_of self * num ≤ 10 ^ 37 }
-        requires size { size_of self * num ≤ 10 ^ 25 * den }
+        requires room { magnitude_of self * num ≤ 10 ^ 37 }
+        requires magnitude { magnitude_of self * num ≤ 10 ^ 25 * den }
         ensures is { result ≡ fraction_of num den self }
         ensures held { IsHeld result }
     {
@@ -91,7 +91,7 @@ impl<S: Scale> Iv<S> {
         Self::rounded(low, high, i128::from(den))
     }
 
-    /// The size.
+    /// The magnitude.
     pub fn abs(self) -> Iv<S>
         ensures is { result ≡ absolute_of self }
         ensures held { IsHeld result }
@@ -113,8 +113,8 @@ impl<S: Scale> Iv<S> {
         ensures is { result ≡ cut_low_at S.unit k self }
         ensures held { IsHeld result }
     {
-        let place = i128::from(k) * S::UNIT;
-        Self::of_ends(self.lo().max(place), self.hi().max(place))
+        let level = i128::from(k) * S::UNIT;
+        Self::of_ends(self.lo().max(level), self.hi().max(level))
     }
 
     /// The interval with both ends lowered to the whole number `k` where they lie above it.
@@ -123,8 +123,8 @@ impl<S: Scale> Iv<S> {
         ensures is { result ≡ cut_high_at S.unit k self }
         ensures held { IsHeld result }
     {
-        let place = i128::from(k) * S::UNIT;
-        Self::of_ends(self.lo().min(place), self.hi().min(place))
+        let level = i128::from(k) * S::UNIT;
+        Self::of_ends(self.lo().min(level), self.hi().min(level))
     }
 
     /// The least interval that holds both.

@@ -1,21 +1,12 @@
-//! Division by the unit of a scale without a 128-bit division, which is a slow call. The unit is a constant below
-//! 2^40, so each step on 64-bit digits is a multiplication.
-ghost use Rattle.std.specs.Prelude.{◌≡◌, ℕ, ◌/◌, ◌^◌, ◌<◌, ◌≤◌, unsigned_abs};
+//! Division by the unit of a scale without a 128-bit division, which is a slow call. The unit is a
+//! constant below 2^40, so each step on 64-bit digits is a multiplication.
+ghost use Rattle.std.specs.Prelude.{◌≡◌, ℕ, ◌/◌, ◌^◌, ◌≤◌, unsigned_abs};
 ghost use Rattle.interval_specs.specs.Rounding.{floor_over, ceil_over};
 
-use crate::scale::Scale;
+use crate::scale::{Scale, unit};
 
-/// The unit of the scale.
-#[inline(always)]
-fn unit<S: Scale>() -> u64
-    ensures is { result ≡ S.unit }
-    ensures least { 10 ^ 6 ≤ result }
-    ensures most { result ≤ 10 ^ 12 }
-{
-    S::UNIT as u64
-}
-
-/// The quotient of `x` by the unit, rounded down, by long division over digits of 64, 24, 24 and 16 bits.
+/// The quotient of `x` by the unit, rounded down, by long division over digits of 64, 24, 24 and 16
+/// bits.
 #[inline(always)]
 fn over_unit<S: Scale>(x: u128) -> u128
     ensures { result ≡ x / S.unit }
@@ -34,7 +25,7 @@ fn over_unit<S: Scale>(x: u128) -> u128
 }
 
 /// The quotient of `z` by the unit, rounded down.
-pub fn floor_unit<S: Scale>(z: i128) -> i128
+pub(crate) fn floor_unit<S: Scale>(z: i128) -> i128
     ensures { result ≡ floor_over z S.unit }
 {
     if 0 <= z {
@@ -45,7 +36,7 @@ pub fn floor_unit<S: Scale>(z: i128) -> i128
 }
 
 /// The quotient of `z` by the unit, rounded up.
-pub fn ceil_unit<S: Scale>(z: i128) -> i128
+pub(crate) fn ceil_unit<S: Scale>(z: i128) -> i128
     requires { unsigned_abs z ≤ 10 ^ 37 }
     ensures { result ≡ ceil_over z S.unit }
 {

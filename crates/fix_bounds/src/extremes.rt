@@ -1,8 +1,9 @@
-//! The least and the greatest of the four results at the ends of two intervals, by as few steps as their signs allow.
+//! The least and the greatest of the four results at the ends of two intervals, by as few steps as
+//! their signs allow.
 ghost use Rattle.std.specs.Prelude.{◌≡◌, ℕ, pos, ◌*◌, ◌^◌, ◌≤◌, ◌≤ℤ◌, ◌<ℤ◌, ◌*ℤ◌, unsigned_abs};
 ghost use Rattle.std.specs.Int.{int_min, int_max};
 ghost use Rattle.interval_specs.specs.Rounding.{floor_over, ceil_over};
-ghost use Rattle.interval_specs.specs.Ends.{Ends, IsHeld, size_of};
+ghost use Rattle.interval_specs.specs.Ends.{Ends, IsHeld, magnitude_of};
 ghost use Rattle.interval_specs.specs.Operations.{least_product, greatest_product};
 
 use crate::interval::Iv;
@@ -11,8 +12,8 @@ use crate::scale::Scale;
 
 /// The least and the greatest product of an end of `first` and an end of `second`.
 #[inline(always)]
-pub fn products<S: Scale>(first: Iv<S>, second: Iv<S>) -> (i128, i128)
-    requires { size_of first * size_of second ≤ 10 ^ 37 }
+pub(crate) fn products<S: Scale>(first: Iv<S>, second: Iv<S>) -> (i128, i128)
+    requires { magnitude_of first * magnitude_of second ≤ 10 ^ 37 }
     ensures least { result.0 ≡ least_product first second }
     ensures greatest { result.1 ≡ greatest_product first second }
     ensures first_held { IsHeld first }
@@ -29,7 +30,7 @@ pub fn products<S: Scale>(first: Iv<S>, second: Iv<S>) -> (i128, i128)
 
 /// The lesser of the quotients of `x` by `c` and by `d`, rounded down.
 #[inline(always)]
-pub fn least_quotient(x: i128, c: i128, d: i128) -> i128
+pub(crate) fn least_quotient(x: i128, c: i128, d: i128) -> i128
     requires positive { pos 0 <ℤ c }
     requires ordered { c ≤ℤ d }
     ensures { result ≡ int_min (floor_over x (unsigned_abs c)) (floor_over x (unsigned_abs d)) }
@@ -39,7 +40,7 @@ pub fn least_quotient(x: i128, c: i128, d: i128) -> i128
 
 /// The greater of the quotients of `x` by `c` and by `d`, rounded up.
 #[inline(always)]
-pub fn greatest_quotient(x: i128, c: i128, d: i128) -> i128
+pub(crate) fn greatest_quotient(x: i128, c: i128, d: i128) -> i128
     requires positive { pos 0 <ℤ c }
     requires ordered { c ≤ℤ d }
     requires room { unsigned_abs x ≤ 10 ^ 37 }

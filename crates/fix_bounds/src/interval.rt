@@ -1,5 +1,5 @@
 ghost use Rattle.std.specs.Prelude.{◌≡◌, ℕ, ℤ, pos, ◌*◌, ◌^◌, ◌≤◌, ◌<ℤ◌, unsigned_abs};
-ghost use Rattle.interval_specs.specs.Ends.{Ends, IsHeld};
+ghost use Rattle.interval_specs.specs.Ends.{Ends, IsHeld, nothing};
 ghost use Rattle.interval_specs.specs.Rounding.{floor_over, ceil_over};
 ghost use Rattle.fix_bounds.specs.CanRound.{CanRound};
 ghost use Rattle.interval_specs.specs.Operations.{ratio_at};
@@ -8,7 +8,8 @@ use crate::rounds::{ceil, ceil_after, floor};
 use crate::scale::Scale;
 use std::marker::{Model, PhantomData};
 
-/// An interval whose ends count parts of the scale `S`. Its ends are in order, and their sizes at most 10^25.
+/// An interval whose ends count parts of the scale `S`. Its ends are in order, and their magnitudes
+/// at most 10^25.
 #[derive(Clone, Copy)]
 pub struct Iv<S: Scale> {
     lo: i128,
@@ -24,6 +25,15 @@ impl<S: Scale> Model for Iv<S> {
     ghost invariant = { λ a. IsHeld (record { lo = a.lo; hi = a.hi }) };
 
     ghost inverse = { λ e. record { lo = e.lo; hi = e.hi; scale = record {} } };
+}
+
+/// Both ends are 0.
+impl<S: Scale> Default for Iv<S> {
+    ghost is_default = { λ a. a ≡ nothing };
+
+    fn default() -> Iv<S> {
+        Iv::of_ends(0, 0)
+    }
 }
 
 impl<S: Scale> Iv<S> {
@@ -44,7 +54,7 @@ impl<S: Scale> Iv<S> {
     pub fn of_ratio(p: i128, q: i128) -> Iv<S>
         requires positive { pos 0 <ℤ q }
         requires room { unsigned_abs p * S.unit ≤ 10 ^ 37 }
-        requires size { unsigned_abs p * S.unit ≤ 10 ^ 25 * unsigned_abs q }
+        requires magnitude { unsigned_abs p * S.unit ≤ 10 ^ 25 * unsigned_abs q }
         ensures is { result ≡ ratio_at S.unit p (unsigned_abs q) }
         ensures held { IsHeld result }
     {
@@ -68,10 +78,12 @@ impl<S: Scale> Iv<S> {
         self.hi
     }
 
-    /// The quotients of both dividends by `by`, rounded outwards, by one division where they are equal.
+    /// The quotients of both dividends by `by`, rounded outwards, by one division where they are
+    /// equal.
     pub(crate) fn rounded(low: i128, high: i128, by: i128) -> Iv<S>
         requires { CanRound low high by }
-        ensures is { result ≡ record { lo = floor_over low (unsigned_abs by); hi = ceil_over high (unsigned_abs by) } }
+        ensures is { let n = unsigned_abs by in
+            result ≡ record { lo = floor_over low n; hi = ceil_over high n } }
         ensures held { IsHeld result }
     {
         let least = floor(low, by);

@@ -1,5 +1,5 @@
-//! Outward interval arithmetic in 128-bit integers, at two scales: each operation rounds its lower end down and its
-//! upper end up, once.
+//! Outward interval arithmetic in 128-bit integers, at two scales: each operation rounds its lower
+//! end down and its upper end up, once.
 #![tactic(auto)]
 
 mod arithmetic;
@@ -13,7 +13,4 @@ mod scale;
 
 pub use interval::Iv;
 pub use ratios::Ratios;
-pub use scale::{Base, Quick, Scale};
-
-#[cfg(test)]
-mod tests;
+pub use scale::{Base, Quick, Scale, unit};

@@ -6,7 +6,8 @@ use crate::interval::Iv;
 use crate::scale::Scale;
 use std::alloc::AllocError;
 
-/// The tristimulus ratios X/Xn, Y/Yn and Z/Zn of a colour to the white of its light, each from 0 to 3.
+/// The tristimulus ratios X/Xn, Y/Yn and Z/Zn of a colour to the white of its light, each from 0 to
+/// 3.
 #[derive(Copy)]
 pub struct Ratios<S: Scale> {
     pub x: Iv<S>,

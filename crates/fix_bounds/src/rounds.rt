@@ -2,7 +2,7 @@ ghost use Rattle.std.specs.Prelude.{◌≡◌, ℕ, pos, ◌^◌, ◌≤◌, ◌
 ghost use Rattle.interval_specs.specs.Rounding.{floor_over, ceil_over};
 
 /// The quotient `z / n`, rounded down.
-pub fn floor(z: i128, n: i128) -> i128
+pub(crate) fn floor(z: i128, n: i128) -> i128
     requires { pos 0 <ℤ n }
     ensures { result ≡ floor_over z (unsigned_abs n) }
 {
@@ -10,7 +10,7 @@ pub fn floor(z: i128, n: i128) -> i128
 }
 
 /// The quotient `z / n`, rounded up.
-pub fn ceil(z: i128, n: i128) -> i128
+pub(crate) fn ceil(z: i128, n: i128) -> i128
     requires positive { pos 0 <ℤ n }
     requires room { unsigned_abs z ≤ 10 ^ 37 }
     ensures { result ≡ ceil_over z (unsigned_abs n) }
@@ -18,8 +18,9 @@ pub fn ceil(z: i128, n: i128) -> i128
     -floor(-z, n)
 }
 
-/// The quotient `z / n` rounded up, from `floor`, the same quotient rounded down: it takes no second division.
-pub fn ceil_after(floor: i128, z: i128, n: i128) -> i128
+/// The quotient `z / n` rounded up, from `floor`, the same quotient rounded down: it takes no
+/// second division.
+pub(crate) fn ceil_after(floor: i128, z: i128, n: i128) -> i128
     requires positive { pos 0 <ℤ n }
     requires room { unsigned_abs z ≤ 10 ^ 37 }
     requires from_floor { floor ≡ floor_over z (unsigned_abs n) }

@@ -3,7 +3,7 @@ ghost use Rattle.std.specs.Int.{◌∣◌};
 ghost use Rattle.std.proofs.Common.{refl, lit≤};
 ghost use Rattle.std.proofs.Math.Nat.{dvd-mul_right};
 
-/// How many parts a unit is counted in: the ends of an interval at this scale are whole numbers of such parts.
+/// A fixed-point scale: the ends of an interval count parts of 1 / `UNIT`.
 pub trait Scale: Copy {
     /// The number of parts of one unit.
     const UNIT: i128;
@@ -20,6 +20,16 @@ pub trait Scale: Copy {
     ghost most: { unit ≤ 10 ^ 12 };
 
     ghost divides: { unit ∣ 10 ^ 12 };
+}
+
+/// The number of parts of one unit, as a natural number.
+#[inline(always)]
+pub fn unit<S: Scale>() -> u64
+    ensures is { result ≡ S.unit }
+    ensures least { 10 ^ 6 ≤ result }
+    ensures most { result ≤ 10 ^ 12 }
+{
+    S::UNIT as u64
 }
 
 /// The scale of everything that is printed or decided: millionths of millionths.

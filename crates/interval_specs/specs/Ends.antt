@@ -7,18 +7,22 @@ pub record Ends : Type 0 where
   pub hi : ℤ
 
 -- the number one at scale n, which has no width
-unfoldable pub whole : ℕ → Ends
-whole n = record { lo = pos n; hi = pos n }
+unfoldable pub one_at : ℕ → Ends
+one_at n = record { lo = pos n; hi = pos n }
 
--- the size of an interval: the greater of the sizes of its ends
-abbrev pub size_of : Ends → ℕ
-size_of a = max (unsigned_abs a.lo) (unsigned_abs a.hi)
+-- an interval of no width at 0
+abbrev pub nothing : Ends
+nothing = record { lo = pos 0; hi = pos 0 }
+
+-- the magnitude of an interval: the greater of the magnitudes of its ends
+abbrev pub magnitude_of : Ends → ℕ
+magnitude_of a = max (unsigned_abs a.lo) (unsigned_abs a.hi)
 
 -- the ends stand in order
 abbrev pub IsOrdered : Ends → Type 0
 IsOrdered a = a.lo ≤ℤ a.hi
 
--- what the code's type of intervals keeps: ends in order, and a size that leaves room in 128 bits
+-- what the code's type of intervals keeps: ends in order, and a magnitude that leaves room in 128 bits
 pub record IsHeld (a : Ends) : Type 0 where
   pub ordered : a.lo ≤ℤ a.hi
-  pub small : size_of a ≤ 10 ^ 25
+  pub small : magnitude_of a ≤ 10 ^ 25

@@ -6,9 +6,9 @@ use Rattle.interval_specs.specs.Encloses.{Encloses}
 use Rattle.interval_specs.specs.Roots.{sqrt_at, cbrt_at}
 use Rattle.interval_specs.specs.Operations.{ratio_at, sum_of, difference_of, product_at, quotient_at, square_at, multiple_of, fraction_of, absolute_of, cut_low_at, cut_high_at, hull_of}
 
--- of a ratio
+-- of a ratio, by any divisor: by 0, both ends are those of the sign of p
 abbrev pub RatioEncloses : Type 0
-RatioEncloses = (n m : ℕ) (p : ℤ) (q : ℕ) → 0 < q → Encloses m (ratio_at n p q) (ratio_at (m * n) p q)
+RatioEncloses = (n m : ℕ) (p : ℤ) (q : ℕ) → Encloses m (ratio_at n p q) (ratio_at (m * n) p q)
 
 -- of a sum
 abbrev pub SumEncloses : Type 0
@@ -35,11 +35,11 @@ SquareEncloses = (n m : ℕ) (a a' : Ends) → 0 < n → 0 < m → Encloses m a 
 abbrev pub MultipleEncloses : Type 0
 MultipleEncloses = (m : ℕ) (k : ℤ) (a a' : Ends) → Encloses m a a' → Encloses m (multiple_of k a) (multiple_of k a')
 
--- of a multiple by a fraction
+-- of a multiple by a fraction, by any divisor
 abbrev pub FractionEncloses : Type 0
-FractionEncloses = (m num den : ℕ) (a a' : Ends) → 0 < den → Encloses m a a' → Encloses m (fraction_of num den a) (fraction_of num den a')
+FractionEncloses = (m num den : ℕ) (a a' : Ends) → Encloses m a a' → Encloses m (fraction_of num den a) (fraction_of num den a')
 
--- of the size
+-- of the magnitude
 abbrev pub AbsoluteEncloses : Type 0
 AbsoluteEncloses = (m : ℕ) (a a' : Ends) → 0 < m → Encloses m a a' → Encloses m (absolute_of a) (absolute_of a')
 

@@ -2,7 +2,7 @@
 -- They are stated at every scale n, over numbers without bound.
 use Rattle.std.specs.Prelude.{ℕ, ℤ, pos, ◌*◌, ◌+ℤ◌, ◌-ℤ◌, ◌*ℤ◌, Bool, min, ◌&&◌, int_le, if◌then◌else◌, unsigned_abs}
 use Rattle.std.specs.Int.{int_min, int_max}
-use Rattle.interval_specs.specs.Ends.{Ends, size_of}
+use Rattle.interval_specs.specs.Ends.{Ends, magnitude_of}
 use Rattle.interval_specs.specs.Rounding.{floor_over, ceil_over}
 
 -- p / q, at scale n
@@ -57,17 +57,17 @@ quotient_at n a b =
 abbrev pub holds_zero : Ends → Bool
 holds_zero a = int_le a.lo (pos 0) && int_le (pos 0) a.hi
 
--- the least size of a number between the ends: 0 where they hold 0, else the lesser of the ends' sizes
-abbrev pub least_size : Ends → ℕ
-least_size a = if holds_zero a then 0 else (min (unsigned_abs a.lo) (unsigned_abs a.hi))
+-- the least magnitude of a number between the ends: 0 where they hold 0, else the lesser of the ends' magnitudes
+abbrev pub least_magnitude : Ends → ℕ
+least_magnitude a = if holds_zero a then 0 else (min (unsigned_abs a.lo) (unsigned_abs a.hi))
 
--- the size of a
+-- the magnitude of a
 unfoldable pub absolute_of : Ends → Ends
-absolute_of a = record { lo = pos (least_size a); hi = pos (size_of a) }
+absolute_of a = record { lo = pos (least_magnitude a); hi = pos (magnitude_of a) }
 
 -- the square of a, at scale n
 unfoldable pub square_at : ℕ → Ends → Ends
-square_at n a = record { lo = floor_over (pos (least_size a * least_size a)) n; hi = ceil_over (pos (size_of a * size_of a)) n }
+square_at n a = record { lo = floor_over (pos (least_magnitude a * least_magnitude a)) n; hi = ceil_over (pos (magnitude_of a * magnitude_of a)) n }
 
 -- k times a, for a whole number k of either sign
 unfoldable pub multiple_of : ℤ → Ends → Ends

@@ -1,2 +1,2 @@
-pub mod Cubes
-pub mod RootEnds
+mod Cubes
+mod RootEnds

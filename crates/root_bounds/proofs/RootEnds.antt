@@ -1,6 +1,6 @@
 -- The ends of a root, from what the integer roots ensure, and what they are taken of.
-use Rattle.std.proofs.Common.{ℕ, ℤ, pos, ◌≡◌, ◌*◌, ◌^◌, ◌≤◌, ◌<◌, ◌∙◌, ap, subst, sym, unsigned_abs, FitsSigned, Fits, arith, mul-le-mul}
-use Rattle.std.proofs.lemmas.Int.{to_z_pos, to_z-of_z}
+use Rattle.std.proofs.Common.{ℕ, ℤ, pos, ◌≡◌, ◌*◌, ◌^◌, ◌≤◌, ◌<◌, ◌∙◌, ap, subst, sym, unsigned_abs, Fits, arith, mul-le-mul}
+use Rattle.std.proofs.lemmas.Int.{to_z_pos}
 use Rattle.std.specs.Int.{w128}
 use mir.Val.{to_z}
 use lib.Signed.{mag}
@@ -20,12 +20,10 @@ high_end power p r y n small e fits least = to_z_pos w128 r small ∙ ap pos (ab
 pub radicand_is : (y factor : ℕ) (r z : ℤ) → mag r < 2 ^ 127 → r ≡ z → y ≡ unsigned_abs (passed r) * factor → y ≡ unsigned_abs z * factor
 radicand_is y factor r z fits e h = h ∙ ap (λ x. unsigned_abs x * factor) (read r z fits e)
 
--- an end of at most ten units, times the square of the unit, has room
-pub cubic_room : (e u n : ℕ) (z w : ℤ) → FitsSigned w128 z → mag w < 2 ^ 127 → e ≡ unsigned_abs (passed z) → u ≡ unsigned_abs (passed w) → unsigned_abs z ≤ 10 * n → w ≡ pos n → n ≤ 10 ^ 12 → Fits w128 (e * (u * u))
-cubic_room e u n z w fits fits' p q small is few =
-    let a : e ≤ 10 * n = subst (λ t. t ≤ 10 * n) (sym (p ∙ ap unsigned_abs (to_z-of_z w128 z fits))) small in
-    let b : u ≡ n = q ∙ ap unsigned_abs (read w (pos n) fits' is) in
-    let c : u ≤ 10 ^ 12 = subst (λ t. t ≤ 10 ^ 12) (sym b) few in
-    let d : e ≤ 10 ^ 13 = omega arith in
+-- at most ten units, times the square of the unit, have room
+pub cubic_room : (t u n : ℕ) → t ≤ 10 * n → u ≡ n → n ≤ 10 ^ 12 → Fits w128 (t * (u * u))
+cubic_room t u n small is few =
+    let c : u ≤ 10 ^ 12 = subst (λ x. x ≤ 10 ^ 12) (sym is) few in
+    let d : t ≤ 10 ^ 13 = omega arith in
     let m = mul-le-mul d (mul-le-mul c c) in
     omega arith

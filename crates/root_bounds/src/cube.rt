@@ -40,7 +40,8 @@ fn cbrt_beside(near: u64, x: u128) -> u128
 /// Is this the greatest number whose cube is at most x?
 fn is_cube_root(root: u64, x: u128) -> bool
     requires { root ≤ GREATEST }
-    ensures { IsTrue result ↔ ((root * root * root ≤ x) × (x < (root + 1) * (root + 1) * (root + 1))) }
+    ensures { IsTrue result
+        ↔ ((root * root * root ≤ x) × (x < (root + 1) * (root + 1) * (root + 1))) }
 {
     let root = u128::from(root);
     let cube = root * root * root;
@@ -91,9 +92,9 @@ fn cbrt_above(root: u128, x: u128) -> u128
     }
 }
 
-/// The least number whose cube is at least x, from the greatest whose cube is at most `low`: where the two are
-/// equal, no second root is taken.
-pub fn cbrt_above_end(root: u128, low: u128, x: u128) -> u128
+/// The least number whose cube is at least x, from the greatest whose cube is at most `low`: where
+/// the two are equal, no second root is taken.
+pub(crate) fn cbrt_above_end(root: u128, low: u128, x: u128) -> u128
     requires small { root < 2 ^ 43 }
     requires fits { root * root * root ≤ low }
     requires greatest { (r : ℕ) → r * r * r ≤ low → r ≤ root }

@@ -4,7 +4,7 @@ ghost use Rattle.interval_specs.specs.Roots.{sqrt_at, cbrt_at};
 
 use crate::cube::{cbrt_above_end, cbrt_floor};
 use crate::square::{sqrt_above_end, sqrt_floor};
-use fix_bounds::{Iv, Scale};
+use fix_bounds::{Iv, Scale, unit};
 
 /// The square root of an interval that is not below 0.
 pub fn sqrt_iv<S: Scale>(x: Iv<S>) -> Iv<S>
@@ -22,7 +22,7 @@ pub fn sqrt_iv<S: Scale>(x: Iv<S>) -> Iv<S>
 /// The cube root of an interval that is not below 0.
 pub fn cbrt_iv<S: Scale>(x: Iv<S>) -> Iv<S>
     requires not_below { pos 0 ≤ℤ x.lo }
-    requires size { x.hi ≤ℤ pos (10 * S.unit) }
+    requires magnitude { x.hi ≤ℤ pos (10 * S.unit) }
     ensures is { result ≡ cbrt_at S.unit x }
     ensures held { IsHeld result }
 {
@@ -36,10 +36,10 @@ pub fn cbrt_iv<S: Scale>(x: Iv<S>) -> Iv<S>
 /// What a square root is taken of: an end that is not below 0, times the scale's unit.
 fn times_unit<S: Scale>(end: i128) -> u128
     requires not_below { pos 0 ≤ℤ end }
-    requires size { unsigned_abs end ≤ 10 ^ 25 }
+    requires magnitude { unsigned_abs end ≤ 10 ^ 25 }
     ensures { result ≡ unsigned_abs end * S.unit }
 {
-    end as u128 * S::UNIT.unsigned_abs()
+    end as u128 * u128::from(unit::<S>())
 }
 
 /// What a cube root is taken of: an end that is not below 0, times the square of the scale's unit.
@@ -47,6 +47,15 @@ fn times_unit_twice<S: Scale>(end: i128) -> u128
     requires { unsigned_abs end ≤ 10 * S.unit }
     ensures { result ≡ unsigned_abs end * (S.unit * S.unit) }
 {
-    let unit = S::UNIT.unsigned_abs();
-    end.unsigned_abs() * (unit * unit)
+    cbrt_radicand::<S>(end.unsigned_abs())
+}
+
+/// What the cube root of `t` parts of the scale is taken of: `t` times the square of the scale's
+/// unit. The root is then counted in parts, too.
+pub fn cbrt_radicand<S: Scale>(t: u128) -> u128
+    requires { t ≤ 10 * S.unit }
+    ensures { result ≡ t * (S.unit * S.unit) }
+{
+    let parts = u128::from(unit::<S>());
+    t * (parts * parts)
 }

@@ -11,7 +11,7 @@ mod tables;
 mod words;
 
 pub use cube::{cbrt_ceil, cbrt_floor};
-pub use interval::{cbrt_iv, sqrt_iv};
+pub use interval::{cbrt_iv, cbrt_radicand, sqrt_iv};
 pub use square::{sqrt_ceil, sqrt_floor};
 
 #[cfg(test)]

@@ -3,9 +3,9 @@
 use crate::tables::CUBE_RECIPROCALS;
 use crate::words::{high_product, low_word};
 
-/// The cube root of the number, mostly exactly: else it is one too small, as for whole cubes.
+/// A guess at the floored cube root: exact, or one less, as for whole cubes; unproved.
 #[inline(always)]
-pub fn near_cube_root(x: u128) -> u64 {
+pub(crate) fn near_cube_root(x: u128) -> u64 {
     // x is v * 8^third with v from 1/8 to 1
     let third = (130 - (x | 1).leading_zeros()) / 3;
     near_root(head_of(x, 3 * third)).wrapping_shr(64_u32.wrapping_sub(third))
@@ -20,22 +20,23 @@ fn head_of(x: u128, bits: u32) -> u64 {
     }
 }
 
-/// The cube root of v times 2^64, where `head` is 2^64 v and v lies from 1/8 to 1: too small by a part of 2^-54 at most. Its
-/// reciprocal is that of a cubic, and one step of Newton, r + (v - r^3) / (3 r^2), gives the root.
+/// The cube root of v times 2^64, where `head` is 2^64 v and v lies from 1/8 to 1: too small by a
+/// part of 2^-54 at most. Its reciprocal is that of a cubic, and one step of Newton, r + (v - r^3)
+/// / (3 r^2), gives the root.
 #[inline(always)]
 fn near_root(head: u64) -> u64 {
     let upper = head >> 32;
     let &[value, slope, bend, turn] = &CUBE_RECIPROCALS[((upper >> 24) as usize).saturating_sub(
         32,
     )];
-    let place = upper & 0xFF_FFFF;
-    let bend = u64::from(bend).wrapping_sub(u64::from(turn).wrapping_mul(place) >> 29);
-    let slope = u64::from(slope).wrapping_sub(bend.wrapping_mul(place) >> 30);
-    let reciprocal = u64::from(value).wrapping_sub(slope.wrapping_mul(place) >> 30);
+    let offset = upper & 0xFF_FFFF;
+    let bend = u64::from(bend).wrapping_sub(u64::from(turn).wrapping_mul(offset) >> 29);
+    let slope = u64::from(slope).wrapping_sub(bend.wrapping_mul(offset) >> 30);
+    let reciprocal = u64::from(value).wrapping_sub(slope.wrapping_mul(offset) >> 30);
     let squared = reciprocal.wrapping_mul(reciprocal) >> 31;
-    let front = upper.wrapping_mul(squared) >> 31;
-    let cube = high_product(front.wrapping_mul(front), front.wrapping_shl(32));
+    let leading = upper.wrapping_mul(squared) >> 31;
+    let cube = high_product(leading.wrapping_mul(leading), leading.wrapping_shl(32));
     let rest = head.wrapping_sub(cube);
     let behind = ((rest >> 6).wrapping_mul(squared) >> 25) / 3;
-    front.wrapping_shl(32).wrapping_add(behind)
+    leading.wrapping_shl(32).wrapping_add(behind)
 }

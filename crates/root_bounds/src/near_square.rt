@@ -3,9 +3,9 @@
 use crate::tables::SQUARE_RECIPROCALS;
 use crate::words::low_word;
 
-/// The square root of the number, mostly exactly: else it is one too small, as for whole squares.
+/// A guess at the floored square root: exact, or one less, as for whole squares; unproved.
 #[inline(always)]
-pub fn near_square_root(x: u128) -> u64 {
+pub(crate) fn near_square_root(x: u128) -> u64 {
     let upper = low_word(x >> 64);
     if upper >= 0x10_0000 {
         return near_long_root(x);
@@ -36,8 +36,8 @@ fn near_long_root(x: u128) -> u64 {
     root.wrapping_add(more).wrapping_shr(shift / 2)
 }
 
-/// The square root of v times 2^64 and its reciprocal times 2^31, where v lies from 1/4 to 1. Both are a little too small,
-/// the root by a part of 2^-46 at most and the reciprocal by one of 2^-23.
+/// The square root of v times 2^64 and its reciprocal times 2^31, where v lies from 1/4 to 1. Both
+/// are a little too small, the root by a part of 2^-46 at most and the reciprocal by one of 2^-23.
 #[derive(Clone, Copy)]
 struct Near {
     root: u64,
@@ -45,20 +45,21 @@ struct Near {
 }
 
 impl Near {
-    /// From 2^64 v. The reciprocal is that of a parabola, and one step of Newton, r + (v - r^2) / (2 r), gives the root.
+    /// From 2^64 v. The reciprocal is that of a parabola, and one step of Newton, r + (v - r^2) /
+    /// (2 r), gives the root.
     #[inline(always)]
     fn of(head: u64) -> Near {
         let upper = head >> 32;
         let &[value, slope, bend] = &SQUARE_RECIPROCALS[((upper >> 24) as usize).saturating_sub(
             64,
         )];
-        let place = upper & 0xFF_FFFF;
-        let slope = u64::from(slope).wrapping_sub(u64::from(bend).wrapping_mul(place) >> 30);
-        let reciprocal = u64::from(value).wrapping_sub(slope.wrapping_mul(place) >> 30);
-        let front = upper.wrapping_mul(reciprocal) >> 31;
-        let rest = head.wrapping_sub(front.wrapping_mul(front));
+        let offset = upper & 0xFF_FFFF;
+        let slope = u64::from(slope).wrapping_sub(u64::from(bend).wrapping_mul(offset) >> 30);
+        let reciprocal = u64::from(value).wrapping_sub(slope.wrapping_mul(offset) >> 30);
+        let leading = upper.wrapping_mul(reciprocal) >> 31;
+        let rest = head.wrapping_sub(leading.wrapping_mul(leading));
         let behind = (rest >> 10).wrapping_mul(reciprocal) >> 22;
-        let root = front.wrapping_shl(32).wrapping_add(behind);
+        let root = leading.wrapping_shl(32).wrapping_add(behind);
         Near { root, reciprocal }
     }
 }

@@ -1,8 +1,10 @@
-//! The tables of the guesses at roots. `bench/root_tables.rs` prints them; nothing is claimed of them.
+//! The tables of the guesses at roots. `bench/root_tables.rs` prints them; nothing is claimed of
+//! them.
 
-/// For k from 64 to 255 the parabola just below 1 / sqrt(v), where v goes from k/256 to (k+1)/256: its value at the
-/// beginning and the sizes of its other coefficients in powers of 256 v - k, times 2^31, 2^37 and 2^43.
-pub const SQUARE_RECIPROCALS: [[u32; 3]; 192] = [
+/// For k from 64 to 255 the parabola just below 1 / sqrt(v), where v goes from k/256 to (k+1)/256:
+/// its value at the beginning and the magnitudes of its other coefficients in powers of 256 v - k,
+/// times 2^31, 2^37 and 2^43.
+pub(crate) const SQUARE_RECIPROCALS: [[u32; 3]; 192] = [
     [4_294_966_976, 2_147_302_911, 1_579_632_461],
     [4_261_800_726, 2_097_946_188, 1_520_028_230],
     [4_229_391_138, 2_050_451_646, 1_463_525_782],
@@ -197,9 +199,10 @@ pub const SQUARE_RECIPROCALS: [[u32; 3]; 192] = [
     [2_151_690_271, 270_014_582, 50_578_356],
 ];
 
-/// For k from 32 to 255 the cubic just below the reciprocal of the cube root of v, where v goes from k/256 to (k+1)/256: its
-/// value at the beginning and the sizes of its other coefficients in powers of 256 v - k, times 2^31, 2^37, 2^43 and 2^48.
-pub const CUBE_RECIPROCALS: [[u32; 4]; 224] = [
+/// For k from 32 to 255 the cubic just below the reciprocal of the cube root of v, where v goes
+/// from k/256 to (k+1)/256: its value at the beginning and the magnitudes of its other coefficients
+/// in powers of 256 v - k, times 2^31, 2^37, 2^43 and 2^48.
+pub(crate) const CUBE_RECIPROCALS: [[u32; 4]; 224] = [
     [4_294_967_281, 2_863_302_576, 3_814_870_186, 2_820_281_801],
     [4_251_138_027, 2_748_202_601, 3_550_718_978, 2_549_274_792],
     [4_209_044_787, 2_640_962_379, 3_311_937_835, 2_311_168_974],

@@ -2,12 +2,12 @@
 
 /// The lower 64 bits.
 #[inline(always)]
-pub fn low_word(x: u128) -> u64 {
+pub(crate) fn low_word(x: u128) -> u64 {
     (x & 0xFFFF_FFFF_FFFF_FFFF) as u64
 }
 
 /// The upper 64 bits of a product.
 #[inline(always)]
-pub fn high_product(a: u64, b: u64) -> u64 {
+pub(crate) fn high_product(a: u64, b: u64) -> u64 {
     low_word(u128::from(a).wrapping_mul(u128::from(b)) >> 64)
 }

@@ -1,12 +1,12 @@
 -- a change of the file under one name, or of none, and what it leaves of the file under any name
-use Rattle.std.proofs.Common.{◌≡◌, ◌≢◌, ◌≤◌, ◌||◌, not, ℕ, Bool, true, false, Option, Some, None, List, option_map, if◌then◌else◌, is_some, IsSome, Result, Ok, Err, OnErr, OnOk, is_err, refl, sym, ap, ◌∙◌, arith}
+use Rattle.std.proofs.Common.{◌≡◌, ◌≢◌, ◌≤◌, ℕ, Bool, true, false, Option, Some, None, List, option_map, if◌then◌else◌, is_some, IsSome, Result, Ok, Err, OnErr, OnOk, is_err, refl, sym, ap, ◌∙◌, subst, arith}
 use Rattle.std.specs.Option.{option_map_or}
 use Rattle.std.specs.Str.{bytes_eq}
 use Rattle.std.proofs.lemmas.Bool.{false≢true}
 use Rattle.std.proofs.lemmas.Bool.Decides.{nat_tests}
 use Rattle.std.proofs.lemmas.Slice.Eq.{bytes_eq-Decides}
 use Rattle.shelf_io.specs.Calls.{one_more}
-use Rattle.shelf_io.specs.Counts.{Rose}
+use Rattle.shelf_io.specs.Counts.{CountsFailure, Rose}
 use Rattle.shelf_io.specs.Held.{Held, held_under, change_under}
 use Rattle.shelf_io.proofs.Files.{under_changed}
 use Rattle.shelf_io.proofs.Shelves.{under_choice, choice_both}
@@ -60,6 +60,10 @@ count_others p b change changed false None shared shared' e h = absurd (false≢
 count_others p b change true false (Some f) shared shared' e h = refl
 count_others p b change false false (Some f) shared shared' e h = refl
 
+pub grows_or : (fails : Bool) (n : ℕ) → n ≤ (if fails then one_more n else n)
+grows_or true n = grows_one n
+grows_or false n = omega arith
+
 -- a failed call raises the count of its own name
 pub count_rose : (p : Held → ℕ) (change : Held → Held) (changed q : Bool) (u : Option Held) (shared : ℕ) → changed ≡ true → q ≡ true → ((f : Held) → p (change f) ≡ one_more (p f)) → Rose (option_map_or p u shared) (option_map_or p (file_after changed q change u) (if is_some u then shared else one_more shared))
 count_rose p change false q u shared e g k = absurd (false≢true e)
@@ -67,14 +71,13 @@ count_rose p change true false u shared e g k = absurd (false≢true g)
 count_rose p change true true None shared e g k = rose_one shared
 count_rose p change true true (Some f) shared e g k = let r = rose_one (p f) in rw k r
 
--- a call that was not told to fail, of a held name, leaves the count of a held name
-pub count_well : (p : Held → ℕ) (change : Held → Held) (changed q told : Bool) (h u : Option Held) (shared shared' : ℕ) → (q ≡ true → u ≡ h) → changed ≡ (told || not (is_some h)) → told ≡ false → IsSome u → option_map_or p (file_after changed q change u) shared' ≡ option_map_or p u shared
-count_well p change changed q told h None shared shared' same c t i = absurd (false≢true i)
-count_well p change false q told h (Some f) shared shared' same c t i = refl
-count_well p change true false told h (Some f) shared shared' same c t i = refl
-count_well p change true true true h (Some f) shared shared' same c t i = absurd (false≢true (sym t))
-count_well p change true true false None (Some f) shared shared' same c t i = let e = same refl in cc
-count_well p change true true false (Some g) (Some f) shared shared' same c t i = absurd (false≢true (sym c))
+-- a call counts its failure
+pub counted : (fails : Bool) (before now : ℕ) → before ≤ now → (fails ≡ true → Rose before now) → (fails ≡ false → now ≡ before) → CountsFailure fails before now
+counted true before now l rose same = (l, rose refl)
+counted false before now l rose same = same refl
+
+pub counted_as : {T E : Type 0} (result : Result T E) (fails : Bool) (before now : ℕ) → is_err result ≡ fails → CountsFailure fails before now → CountsFailure (is_err result) before now
+counted_as result fails before now e h = let P : Bool → Type 0 = λ b. CountsFailure b before now in subst P (sym e) h
 
 pub same_name : (n : List ℕ) → bytes_eq n n ≡ true
 same_name n = (bytes_eq-Decides n n).1 refl

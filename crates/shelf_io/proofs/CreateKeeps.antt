@@ -1,17 +1,19 @@
--- what a create does to the contents and the counts of a shelf in memory
-use Rattle.std.proofs.Common.{◌≡◌, ◌==◌, ◌+◌, ◌<◌, ◌≤◌, ◌||◌, ◌&&◌, not, ℕ, Bool, true, false, Option, Some, None, List, [], option_map, if◌then◌else◌, is_some, IsSome, Result, Ok, Err, IsOk, is_err, refl, sym, ap, ◌∙◌, subst, arith}
+-- What a create changes of a shelf in memory, and what it leaves.
+use Rattle.std.proofs.Common.{◌≡◌, ◌≢◌, ◌==◌, ◌+◌, ◌≤◌, ◌||◌, ◌&&◌, not, ℕ, Bool, true, false, Option, Some, None, List, [], option_map, if◌then◌else◌, is_some, IsSome, IsTrue, Result, Ok, Err, IsOk, is_err, nat_lt, refl, sym, ap, ◌∙◌, subst, arith}
 use Rattle.std.specs.Option.{option_map_or}
 use Rattle.std.specs.Str.{bytes_eq}
 use Rattle.std.proofs.lemmas.Bool.{false≢true}
 use Rattle.std.proofs.lemmas.Bool.Decides.{nat_tests}
-use Rattle.shelf_io.specs.Calls.{one_more, is_told}
-use Rattle.shelf_io.specs.Contents.{Contents, put_bytes}
-use Rattle.shelf_io.specs.Counts.{CountsOf, KeepsWell, Rose, WorksFor}
+use Rattle.shelf_io.specs.Calls.{one_more, is_scheduled, none_scheduled}
+use Rattle.shelf_io.specs.Changes.{OnlyWrites}
+use Rattle.shelf_io.specs.Contents.{Creates, known_file, put_bytes}
+use Rattle.shelf_io.specs.Counts.{CountsFailure, Rose}
 use Rattle.shelf_io.specs.Held.{Held, held_under, with_failed_write, without_bytes}
-use Rattle.shelf_io.specs.MemShelf.{ShelfState, ReadsWell, WritesWell, is_held, create_fails, create_after, failed_write, emptied, added, shelf_contents, shelf_reads, shelf_writes}
-use Rattle.shelf_io.proofs.Changes.{grows_one, file_after, under_after, kept, kept_or, still_held, count_grows, count_others, count_rose, same_name, other_name}
+use Rattle.shelf_io.specs.MemShelf.{ShelfState, is_held, create_fails, create_after, failed_write, emptied, added, promises_writes, shelf_contents, shelf_handed, shelf_reads, shelf_view, shelf_writes}
+use Rattle.shelf_io.proofs.Changes.{count_grows, count_others, count_rose, counted, counted_as, file_after, grows_one, kept, kept_or, other_name, same_name, still_held, under_after}
 use Rattle.shelf_io.proofs.Files.{under_pushed}
-use Rattle.shelf_io.proofs.ReadKeeps.{shared_grows, told_nothing}
+use Rattle.shelf_io.proofs.Promises.{none_fails, reads_facts, reads_promise, writes_facts, writes_promise}
+use Rattle.shelf_io.proofs.ReadKeeps.{is_fine}
 use Rattle.shelf_io.proofs.Shelves.{same_contents, same_file, bytes_eq_comm}
 
 -- the three ways that a create goes
@@ -33,7 +35,7 @@ abbrev pushed_after : Option Held → Bool → Held → Option Held
 pushed_after u r new = if is_some u then u else (if r then Some new else None)
 
 abbrev new_file : ShelfState → List ℕ → Held
-new_file s name = record { name = name; bytes = []; reserved = s.room; reads = s.shared_reads; writes = s.shared_writes }
+new_file s name = record { name = name; bytes = []; reserved = s.room; reads = s.shared_reads; writes = s.shared_writes; handed = 0 }
 
 failed_under : (s : ShelfState) (name n : List ℕ) → held_under n (failed_write s name).files ≡ file_after true (bytes_eq n name) with_failed_write (held_under n s.files)
 failed_under s name n = under_after true name n with_failed_write s.files (λ _. refl)
@@ -70,7 +72,7 @@ pushed_step true r (Some f) (Some g) new same held e b = absurd (false≢true (s
 pushed_step false r None h new same held e b = rw e refl
 pushed_step false r (Some f) h new same held e b = refl
 
-pub created_ok : (s t : ShelfState) (name : List ℕ) → Created s t name → create_fails s name ≡ false → Some (shelf_contents t) ≡ Some (put_bytes name [] (shelf_contents s))
+created_ok : (s t : ShelfState) (name : List ℕ) → Created s t name → create_fails s name ≡ false → Some (shelf_contents t) ≡ Some (put_bytes name [] (shelf_contents s))
 created_ok s t name (failed f e) passes = absurd (false≢true (sym passes ∙ f))
 created_ok s t name (cleared f h e) passes =
     ap (λ x. Some (shelf_contents x)) e
@@ -83,7 +85,7 @@ created_ok s t name (fresh f h e) passes =
     (λ n. ap (option_map (λ f. f.bytes)) (under_pushed n s.files (new_file s name)) ∙ pushed_step (bytes_eq n name) (bytes_eq name n) (held_under n s.files) (held_under name s.files) (new_file s name) (same_file name n s.files) h (bytes_eq_comm name n) refl)
     refl)
 
-pub created_err : (s t : ShelfState) (name : List ℕ) → Created s t name → create_fails s name ≡ true → Some (shelf_contents t) ≡ Some (shelf_contents s)
+created_err : (s t : ShelfState) (name : List ℕ) → Created s t name → create_fails s name ≡ true → Some (shelf_contents t) ≡ Some (shelf_contents s)
 created_err s t name (failed f e) fails =
     ap (λ x. Some (shelf_contents x)) e
     ∙ ap (λ c. Some c) (same_contents (shelf_contents (failed_write s name)) (shelf_contents s)
@@ -103,23 +105,26 @@ emptied_writes s name n = ap (λ u. option_map_or (λ f. f.writes) u s.shared_wr
 added_writes : (s : ShelfState) (name n : List ℕ) → shelf_writes (added s name) n ≡ shelf_writes s n
 added_writes s name n = ap (λ u. option_map_or (λ f. f.writes) u s.shared_writes) (under_pushed n s.files (new_file s name)) ∙ pushed_or (λ f. f.writes) (held_under n s.files) (bytes_eq name n) (new_file s name) s.shared_writes refl
 
-pub counts_same : (contents : Option Contents) (name : List ℕ) (before now : List ℕ → ℕ) → ((n : List ℕ) → now n ≡ before n) → CountsOf contents name before now
-counts_same contents name before now h = record { grows = λ n. let e = h n in omega arith; others = λ n _ _. h n }
+shared_grows : (held : Bool) (shared : ℕ) → shared ≤ (if held then shared else one_more shared)
+shared_grows true shared = omega arith
+shared_grows false shared = grows_one shared
 
-pub created_counts : (s t : ShelfState) (name : List ℕ) → Created s t name → CountsOf (Some (shelf_contents s)) name (shelf_writes s) (shelf_writes t)
-created_counts s t name (failed f e) = record {
-  grows = λ n.
-      let P : ℕ → Type 0 = λ k. shelf_writes s n ≤ k in
-      subst P (sym (ap (λ x. shelf_writes x n) e ∙ failed_writes s name n))
-      (count_grows (λ f. f.writes) with_failed_write true (bytes_eq n name) (held_under n s.files) s.shared_writes (if is_held s name then s.shared_writes else one_more s.shared_writes) (shared_grows (is_held s name) s.shared_writes) (λ f. grows_one f.writes));
-  others = λ n apart held.
-      ap (λ x. shelf_writes x n) e ∙ failed_writes s name n
-      ∙ count_others (λ f. f.writes) (λ f. f.bytes) with_failed_write true (bytes_eq n name) (held_under n s.files) s.shared_writes (if is_held s name then s.shared_writes else one_more s.shared_writes) (other_name n name apart) held;
-}
-created_counts s t name (cleared f h e) = counts_same (Some (shelf_contents s)) name (shelf_writes s) (shelf_writes t) (λ n. ap (λ x. shelf_writes x n) e ∙ emptied_writes s name n)
-created_counts s t name (fresh f h e) = counts_same (Some (shelf_contents s)) name (shelf_writes s) (shelf_writes t) (λ n. ap (λ x. shelf_writes x n) e ∙ added_writes s name n)
+created_grows : (s t : ShelfState) (name : List ℕ) → Created s t name → (n : List ℕ) → shelf_writes s n ≤ shelf_writes t n
+created_grows s t name (failed f e) = λ n.
+    let P : ℕ → Type 0 = λ k. shelf_writes s n ≤ k in
+    subst P (sym (ap (λ x. shelf_writes x n) e ∙ failed_writes s name n))
+    (count_grows (λ f. f.writes) with_failed_write true (bytes_eq n name) (held_under n s.files) s.shared_writes (if is_held s name then s.shared_writes else one_more s.shared_writes) (shared_grows (is_held s name) s.shared_writes) (λ f. grows_one f.writes))
+created_grows s t name (cleared f h e) = λ n. let k : shelf_writes t n ≡ shelf_writes s n = ap (λ x. shelf_writes x n) e ∙ emptied_writes s name n in omega (arith, k)
+created_grows s t name (fresh f h e) = λ n. let k : shelf_writes t n ≡ shelf_writes s n = ap (λ x. shelf_writes x n) e ∙ added_writes s name n in omega (arith, k)
 
-pub created_rose : (s t : ShelfState) (name : List ℕ) → Created s t name → create_fails s name ≡ true → Rose (shelf_writes s name) (shelf_writes t name)
+created_others : (s t : ShelfState) (name : List ℕ) → Created s t name → (n : List ℕ) → n ≢ name → IsSome (option_map (λ f. f.bytes) (held_under n s.files)) → shelf_writes t n ≡ shelf_writes s n
+created_others s t name (failed f e) = λ n apart held.
+    ap (λ x. shelf_writes x n) e ∙ failed_writes s name n
+    ∙ count_others (λ f. f.writes) (λ f. f.bytes) with_failed_write true (bytes_eq n name) (held_under n s.files) s.shared_writes (if is_held s name then s.shared_writes else one_more s.shared_writes) (other_name n name apart) held
+created_others s t name (cleared f h e) = λ n apart held. ap (λ x. shelf_writes x n) e ∙ emptied_writes s name n
+created_others s t name (fresh f h e) = λ n apart held. ap (λ x. shelf_writes x n) e ∙ added_writes s name n
+
+created_rose : (s t : ShelfState) (name : List ℕ) → Created s t name → create_fails s name ≡ true → Rose (shelf_writes s name) (shelf_writes t name)
 created_rose s t name (failed f e) fails =
     let P : ℕ → Type 0 = λ k. Rose (shelf_writes s name) k in
     subst P (sym (ap (λ x. shelf_writes x name) e ∙ failed_writes s name name))
@@ -127,12 +132,19 @@ created_rose s t name (failed f e) fails =
 created_rose s t name (cleared f h e) fails = absurd (false≢true (sym f ∙ fails))
 created_rose s t name (fresh f h e) fails = absurd (false≢true (sym f ∙ fails))
 
-pub created_other_kind : (s t : ShelfState) (name : List ℕ) → Created s t name → (n : List ℕ) → shelf_reads t n ≡ shelf_reads s n
+created_other_kind : (s t : ShelfState) (name : List ℕ) → Created s t name → (n : List ℕ) → shelf_reads t n ≡ shelf_reads s n
 created_other_kind s t name (failed f e) = λ n. ap (λ x. shelf_reads x n) e ∙ ap (λ u. option_map_or (λ f. f.reads) u s.shared_reads) (failed_under s name n) ∙ kept_or (λ f. f.reads) with_failed_write true (bytes_eq n name) (held_under n s.files) s.shared_reads (λ _. refl)
 created_other_kind s t name (cleared f h e) = λ n. ap (λ x. shelf_reads x n) e ∙ ap (λ u. option_map_or (λ f. f.reads) u s.shared_reads) (emptied_under s name n) ∙ kept_or (λ f. f.reads) without_bytes true (bytes_eq n name) (held_under n s.files) s.shared_reads (λ _. refl)
 created_other_kind s t name (fresh f h e) = λ n. ap (λ x. shelf_reads x n) e ∙ ap (λ u. option_map_or (λ f. f.reads) u s.shared_reads) (under_pushed n s.files (new_file s name)) ∙ pushed_or (λ f. f.reads) (held_under n s.files) (bytes_eq name n) (new_file s name) s.shared_reads refl
 
--- names whose calls do not fail
+-- bytes handed out
+
+created_handed : (s t : ShelfState) (name : List ℕ) → Created s t name → (n : List ℕ) → shelf_handed t n ≡ shelf_handed s n
+created_handed s t name (failed f e) = λ n. ap (λ x. shelf_handed x n) e ∙ ap (λ u. option_map_or (λ f. f.handed) u 0) (failed_under s name n) ∙ kept_or (λ f. f.handed) with_failed_write true (bytes_eq n name) (held_under n s.files) 0 (λ _. refl)
+created_handed s t name (cleared f h e) = λ n. ap (λ x. shelf_handed x n) e ∙ ap (λ u. option_map_or (λ f. f.handed) u 0) (emptied_under s name n) ∙ kept_or (λ f. f.handed) without_bytes true (bytes_eq n name) (held_under n s.files) 0 (λ _. refl)
+created_handed s t name (fresh f h e) = λ n. ap (λ x. shelf_handed x n) e ∙ ap (λ u. option_map_or (λ f. f.handed) u 0) (under_pushed n s.files (new_file s name)) ∙ pushed_or (λ f. f.handed) (held_under n s.files) (bytes_eq name n) (new_file s name) 0 refl
+
+-- promises
 
 created_held : (s t : ShelfState) (name : List ℕ) → Created s t name → (n : List ℕ) → IsSome (held_under n s.files) → IsSome (held_under n t.files)
 created_held s t name (failed f e) = λ n h. let Q : Option Held → Type 0 = λ u. IsSome u in subst Q (sym (ap (λ x. held_under n x.files) e ∙ failed_under s name n)) (still_held with_failed_write true (bytes_eq n name) (held_under n s.files) h)
@@ -144,29 +156,23 @@ created_failing s t name (failed f e) = ap (λ x. x.failing) e
 created_failing s t name (cleared f h e) = ap (λ x. x.failing) e
 created_failing s t name (fresh f h e) = ap (λ x. x.failing) e
 
-pub created_keeps_reading : (s t : ShelfState) (name : List ℕ) → Created s t name → KeepsWell (ReadsWell s) (ReadsWell t) (shelf_reads s) (shelf_reads t)
-created_keeps_reading s t name w = λ n well. ((created_failing s t name w ∙ well.0, created_held s t name w n well.1), created_other_kind s t name w n)
-
 passes_step : (told held none : Bool) → told ≡ false → (held ≡ false → none ≡ false) → (told || (not held && none)) ≡ false
 passes_step true held none t h = absurd (false≢true (sym t))
 passes_step false true none t h = refl
 passes_step false false none t h = h refl
 
-some_place : (held : Bool) (places : ℕ) → 0 < places + (if held then 1 else 0) → held ≡ false → (places == 0) ≡ false
+some_place : (held : Bool) (places : ℕ) → (held || nat_lt 0 places) ≡ true → held ≡ false → (places == 0) ≡ false
 some_place true places h e = absurd (false≢true (sym e))
 some_place false places h e = grind (arith, nat_tests)
 
-well_passes : (s : ShelfState) (name : List ℕ) (bytes : ℕ) → WritesWell s name bytes → create_fails s name ≡ false
-well_passes s name bytes well =
-    passes_step (is_told s.failing s.calls) (is_held s name) (s.places == 0) (told_nothing s.failing s.calls well.0) (some_place (is_held s name) s.places well.1)
+promise_passes : (s : ShelfState) (name : List ℕ) (bytes : ℕ) → IsTrue (promises_writes s name bytes) → create_fails s name ≡ false
+promise_passes s name bytes h =
+    let w = writes_facts s name bytes h in
+    passes_step (is_scheduled s.failing s.calls) (is_held s name) (s.places == 0) (none_fails s.failing s.calls w.none) (some_place (is_held s name) s.places w.place)
 
-pub is_fine : {T E : Type 0} (result : Result T E) → is_err result ≡ false → IsOk result
-is_fine (Ok _) h = refl
-is_fine (Err _) h = absurd (false≢true (sym h))
-
-one_held : (places : ℕ) (held : Bool) → held ≡ true → 0 < places + (if held then 1 else 0)
-one_held places true h = omega arith
-one_held places false h = absurd (false≢true h)
+held_place : (held some : Bool) → held ≡ true → (held || some) ≡ true
+held_place true some h = refl
+held_place false some h = absurd (false≢true h)
 
 created_there : (s t : ShelfState) (name : List ℕ) → Created s t name → create_fails s name ≡ false → IsSome (held_under name t.files)
 created_there s t name (failed f e) passes = absurd (false≢true (sym passes ∙ f))
@@ -185,11 +191,45 @@ created_writes s t name (failed f e) passes = absurd (false≢true (sym passes �
 created_writes s t name (cleared f h e) passes = λ n. ap (λ x. shelf_writes x n) e ∙ emptied_writes s name n
 created_writes s t name (fresh f h e) passes = λ n. ap (λ x. shelf_writes x n) e ∙ added_writes s name n
 
-pub created_works : {E : Type 0} (s t : ShelfState) (name : List ℕ) (result : Result (Unit {0}) E) → Created s t name → is_err result ≡ create_fails s name → WorksFor (WritesWell s name) (WritesWell t name) (shelf_writes s name) (shelf_writes t name) result
-created_works s t name result w exact = λ bytes well.
-    let passes = well_passes s name bytes well in
-    let enough : bytes ≤ t.room = let e = created_room s t name w in let h = well.2 in omega arith in (
-      is_fine result (exact ∙ passes),
-      created_writes s t name w passes name,
-      (created_failing s t name w ∙ well.0, one_held t.places (is_held t name) (created_there s t name w passes), enough),
-    )
+-- the three together
+
+files_after : (s t : ShelfState) (name : List ℕ) (fails : Bool) → Created s t name → create_fails s name ≡ fails → (n : List ℕ) → n ≢ name → known_file (Some (shelf_contents t)) n ≡ known_file (Some (shelf_contents s)) n
+files_after s t name true w f = λ n apart. ap (λ c. known_file c n) (created_err s t name w f)
+files_after s t name false w f = λ n apart.
+    let e : (if bytes_eq n name then Some [] else (shelf_contents s).file n) ≡ (shelf_contents s).file n = rw (other_name n name apart) refl in
+    ap (λ c. known_file c n) (created_ok s t name w f) ∙ e
+
+pub created_only : (s t : ShelfState) (name : List ℕ) → Created s t name → OnlyWrites name 0 (shelf_view s) (shelf_view t)
+created_only s t name w = record {
+  reads = created_other_kind s t name w;
+  handed = created_handed s t name w;
+  files = files_after s t name (create_fails s name) w refl;
+  grows = created_grows s t name w;
+  others = created_others s t name w;
+  reads_kept = λ n h.
+      let r = reads_facts s n h in
+      reads_promise t n (record { none = ap none_scheduled (created_failing s t name w) ∙ r.none; held = created_held s t name w n r.held });
+  writes_kept = λ more h.
+      let r = writes_facts s name (0 + more) h in
+      let passes = promise_passes s name (0 + more) h in
+      let enough : more ≤ t.room = let e = created_room s t name w in let k = r.room in omega (arith, e, k) in (
+        writes_promise t name more (record {
+          none = ap none_scheduled (created_failing s t name w) ∙ r.none;
+          place = held_place (is_held t name) (nat_lt 0 t.places) (created_there s t name w passes);
+          room = enough;
+        }),
+        created_writes s t name w passes name,
+      );
+}
+
+pub created_contents : {T E : Type 0} (s t : ShelfState) (name : List ℕ) (result : Result T E) → Created s t name → is_err result ≡ create_fails s name → Creates name result (Some (shelf_contents s)) (Some (shelf_contents t))
+created_contents s t name (Ok _) w e = created_ok s t name w (sym e)
+created_contents s t name (Err _) w e = created_err s t name w (sym e)
+
+pub created_counted : {T E : Type 0} (s t : ShelfState) (name : List ℕ) (result : Result T E) → Created s t name → is_err result ≡ create_fails s name → CountsFailure (is_err result) (shelf_writes s name) (shelf_writes t name)
+created_counted s t name result w exact =
+    counted_as result (create_fails s name) (shelf_writes s name) (shelf_writes t name) exact
+    (counted (create_fails s name) (shelf_writes s name) (shelf_writes t name) (created_grows s t name w name) (created_rose s t name w) (λ f. created_writes s t name w f name))
+
+pub created_promised : {T E : Type 0} (s : ShelfState) (name : List ℕ) (result : Result T E) → is_err result ≡ create_fails s name → (bytes : ℕ) → IsTrue (promises_writes s name bytes) → IsOk result
+created_promised s name result exact = λ bytes h. is_fine result (exact ∙ promise_passes s name bytes h)

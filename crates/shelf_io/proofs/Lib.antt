@@ -1,11 +1,12 @@
-pub mod AppendKeeps
-pub mod Changes
-pub mod CreateKeeps
-pub mod Files
-pub mod Fronts
+mod AppendKeeps
+mod Changes
+mod CreateKeeps
+mod Files
+mod Fronts
 pub mod Keeping
-pub mod ReadKeeps
-pub mod ReadSteps
-pub mod Shelves
-pub mod WriteSteps
+mod Promises
+mod ReadKeeps
+mod ReadSteps
+mod Shelves
+mod WriteSteps
 pub mod Written

@@ -1,78 +1,155 @@
--- what a read keeps of a shelf in memory: its contents, and the counts of other names and of the other kind
-use Rattle.std.proofs.Common.{◌≡◌, ◌+◌, ◌<◌, ◌≤◌, ℕ, Bool, true, false, Option, Some, None, List, [], option_map, if◌then◌else◌, is_some, IsSome, refl, sym, ap, ◌∙◌, subst, arith}
+-- What a read changes of a shelf in memory, and what it leaves.
+use Rattle.std.proofs.Common.{◌≡◌, ◌+◌, ◌≤◌, ◌&&◌, ◌||◌, not, ℕ, Bool, true, false, Option, Some, None, List, Result, Ok, Err, IfOk, IsOk, IsTrue, is_err, option_map, if◌then◌else◌, is_some, IsSome, nat_le, nat_lt, refl, sym, ap, ◌∙◌, subst, arith}
 use Rattle.std.specs.Option.{option_map_or}
 use Rattle.std.specs.Str.{bytes_eq}
-use Rattle.shelf_io.specs.Calls.{one_more, is_told}
-use Rattle.shelf_io.specs.Counts.{CountsOf, KeepsWell, Rose}
-use Rattle.shelf_io.specs.Held.{Held, held_under, with_failed_read}
-use Rattle.shelf_io.specs.MemShelf.{ShelfState, ReadsWell, WritesWell, is_held, read_fails, read_after, shelf_contents, shelf_reads, shelf_writes}
-use Rattle.shelf_io.proofs.Changes.{grows_one, file_after, under_after, kept, kept_or, still_held, count_grows, count_others, count_rose, count_well, same_name, other_name}
+use Rattle.std.proofs.lemmas.Bool.{false≢true}
+use Rattle.shelf_io.specs.Calls.{is_scheduled, none_scheduled, one_more}
+use Rattle.shelf_io.specs.Changes.{HandsOut, OnlyReads, given}
+use Rattle.shelf_io.specs.Counts.{CountsFailure}
+use Rattle.shelf_io.specs.Held.{Held, held_under, with_read}
+use Rattle.shelf_io.specs.MemShelf.{ShelfState, is_held, promises_reads, promises_writes, read_after, read_fails, read_size, shelf_contents, shelf_handed, shelf_reads, shelf_view, shelf_writes}
+use Rattle.shelf_io.proofs.Changes.{count_grows, count_others, counted_as, file_after, grows_one, kept, kept_or, other_name, rose_one, same_name, under_after}
+use Rattle.shelf_io.proofs.Promises.{none_fails, reads_facts}
 use Rattle.shelf_io.proofs.Shelves.{same_contents, same_file}
 
-read_under : (s : ShelfState) (name n : List ℕ) → held_under n (read_after s name).files ≡ file_after (read_fails s name) (bytes_eq n name) with_failed_read (held_under n s.files)
-read_under s name n = under_after (read_fails s name) name n with_failed_read s.files (λ _. refl)
+-- what a read leaves of a file
+read_name : (fails : Bool) (count : ℕ) (f : Held) → (with_read fails count f).name ≡ f.name
+read_name true count f = refl
+read_name false count f = refl
 
-pub read_contents : (s t : ShelfState) (name : List ℕ) → t ≡ read_after s name → Some (shelf_contents t) ≡ Some (shelf_contents s)
-read_contents s t name e =
-    ap (λ x. Some (shelf_contents x)) e
-    ∙ ap (λ c. Some c) (same_contents (shelf_contents (read_after s name)) (shelf_contents s)
-    (λ n. ap (option_map (λ f. f.bytes)) (read_under s name n) ∙ kept (λ f. f.bytes) with_failed_read (read_fails s name) (bytes_eq n name) (held_under n s.files) (λ _. refl))
-    refl)
+read_bytes : (fails : Bool) (count : ℕ) (f : Held) → (with_read fails count f).bytes ≡ f.bytes
+read_bytes true count f = refl
+read_bytes false count f = refl
 
-pub read_other_kind : (s t : ShelfState) (name : List ℕ) → t ≡ read_after s name → (n : List ℕ) → shelf_writes t n ≡ shelf_writes s n
-read_other_kind s t name e = λ n.
-    ap (λ x. shelf_writes x n) e
-    ∙ ap (λ u. option_map_or (λ f. f.writes) u s.shared_writes) (read_under s name n)
-    ∙ kept_or (λ f. f.writes) with_failed_read (read_fails s name) (bytes_eq n name) (held_under n s.files) s.shared_writes (λ _. refl)
+read_writes : (fails : Bool) (count : ℕ) (f : Held) → (with_read fails count f).writes ≡ f.writes
+read_writes true count f = refl
+read_writes false count f = refl
 
-pub shared_grows : (held : Bool) (shared : ℕ) → shared ≤ (if held then shared else one_more shared)
+read_grows : (fails : Bool) (count : ℕ) (f : Held) → f.reads ≤ (with_read fails count f).reads
+read_grows true count f = grows_one f.reads
+read_grows false count f = omega arith
+
+-- the read of the name, from the offset on and into so many bytes, as a change of its file
+abbrev change : ShelfState → List ℕ → (offset size : ℕ) → Held → Held
+change s name offset size = with_read (read_fails s name) (read_size s name offset size)
+
+read_under : (s : ShelfState) (name : List ℕ) (offset size : ℕ) (n : List ℕ) → held_under n (read_after s name offset size).files ≡ file_after true (bytes_eq n name) (change s name offset size) (held_under n s.files)
+read_under s name offset size n = under_after true name n (change s name offset size) s.files (read_name (read_fails s name) (read_size s name offset size))
+
+-- the counts of names that are not held
+abbrev shared_after : ShelfState → List ℕ → ℕ
+shared_after s name = if is_held s name then s.shared_reads else one_more s.shared_reads
+
+shared_grows : (held : Bool) (shared : ℕ) → shared ≤ (if held then shared else one_more shared)
 shared_grows true shared = omega arith
 shared_grows false shared = grows_one shared
 
-reads_are : (s : ShelfState) (name n : List ℕ) → shelf_reads (read_after s name) n ≡ option_map_or (λ f. f.reads) (file_after (read_fails s name) (bytes_eq n name) with_failed_read (held_under n s.files)) (if is_held s name then s.shared_reads else one_more s.shared_reads)
-reads_are s name n = ap (λ u. option_map_or (λ f. f.reads) u (if is_held s name then s.shared_reads else one_more s.shared_reads)) (read_under s name n)
+reads_are : (s : ShelfState) (name : List ℕ) (offset size : ℕ) (n : List ℕ) → shelf_reads (read_after s name offset size) n ≡ option_map_or (λ f. f.reads) (file_after true (bytes_eq n name) (change s name offset size) (held_under n s.files)) (shared_after s name)
+reads_are s name offset size n = ap (λ u. option_map_or (λ f. f.reads) u (shared_after s name)) (read_under s name offset size n)
 
-pub read_counts : (s t : ShelfState) (name : List ℕ) → t ≡ read_after s name → CountsOf (Some (shelf_contents s)) name (shelf_reads s) (shelf_reads t)
-read_counts s t name e = record {
+-- the file under the own name: a failure raises its count, and without one it stays
+fails_held : (scheduled : Bool) (u : Option Held) → (scheduled || not (is_some u)) ≡ false → IsSome u
+fails_held true u h = absurd (false≢true (sym h))
+fails_held false (Some f) h = refl
+fails_held false None h = absurd (false≢true (sym h))
+
+own_count : (fails q : Bool) (count : ℕ) (u : Option Held) (shared : ℕ) → q ≡ true → (fails ≡ false → IsSome u) → CountsFailure fails (option_map_or (λ f. f.reads) u shared) (option_map_or (λ f. f.reads) (file_after true q (with_read fails count) u) (if is_some u then shared else one_more shared))
+own_count fails false count u shared e h = absurd (false≢true e)
+own_count true true count None shared e h = (grows_one shared, rose_one shared)
+own_count true true count (Some f) shared e h = (grows_one f.reads, rose_one f.reads)
+own_count false true count None shared e h = absurd (false≢true (h refl))
+own_count false true count (Some f) shared e h = refl
+
+pub read_counted : {E : Type 0} (s t : ShelfState) (name : List ℕ) (offset size : ℕ) (result : Result ℕ E) → t ≡ read_after s name offset size → is_err result ≡ read_fails s name → CountsFailure (is_err result) (shelf_reads s name) (shelf_reads t name)
+read_counted s t name offset size result e exact =
+    let P : ℕ → Type 0 = λ k. CountsFailure (read_fails s name) (shelf_reads s name) k in
+    counted_as result (read_fails s name) (shelf_reads s name) (shelf_reads t name) exact
+    (subst P (sym (ap (λ x. shelf_reads x name) e ∙ reads_are s name offset size name))
+    (own_count (read_fails s name) (bytes_eq name name) (read_size s name offset size) (held_under name s.files) s.shared_reads (same_name name) (fails_held (is_scheduled s.failing s.calls) (held_under name s.files))))
+
+-- what is held stays held
+pub held_same : (g : Held → Held) (q : Bool) (u : Option Held) → is_some (file_after true q g u) ≡ is_some u
+held_same g true None = refl
+held_same g true (Some f) = refl
+held_same g false u = refl
+
+held_after : (s : ShelfState) (name : List ℕ) (offset size : ℕ) (n : List ℕ) → is_held (read_after s name offset size) n ≡ is_held s n
+held_after s name offset size n = ap is_some (read_under s name offset size n) ∙ held_same (change s name offset size) (bytes_eq n name) (held_under n s.files)
+
+-- where no call is scheduled to fail, a read of any name leaves the count of a held one
+quiet : (fails scheduled q : Bool) (count : ℕ) (h u : Option Held) (shared shared' : ℕ) → (q ≡ true → u ≡ h) → fails ≡ (scheduled || not (is_some h)) → scheduled ≡ false → IsSome u
+    → option_map_or (λ f. f.reads) (file_after true q (with_read fails count) u) shared' ≡ option_map_or (λ f. f.reads) u shared
+quiet fails scheduled q count h None shared shared' same c t i = absurd (false≢true i)
+quiet fails scheduled false count h (Some f) shared shared' same c t i = refl
+quiet false scheduled true count h (Some f) shared shared' same c t i = refl
+quiet true true true count h (Some f) shared shared' same c t i = absurd (false≢true (sym t))
+quiet true false true count None (Some f) shared shared' same c t i = let e = same refl in cc
+quiet true false true count (Some g) (Some f) shared shared' same c t i = absurd (false≢true (sym c))
+
+pub read_only : (s t : ShelfState) (name : List ℕ) (offset size : ℕ) → t ≡ read_after s name offset size → OnlyReads (λ n. n ≡ name) (shelf_view s) (shelf_view t)
+read_only s t name offset size e = record {
+  contents =
+      ap (λ x. Some (shelf_contents x)) e
+      ∙ ap (λ c. Some c) (same_contents (shelf_contents (read_after s name offset size)) (shelf_contents s)
+      (λ n. ap (option_map (λ f. f.bytes)) (read_under s name offset size n) ∙ kept (λ f. f.bytes) (change s name offset size) true (bytes_eq n name) (held_under n s.files) (read_bytes (read_fails s name) (read_size s name offset size)))
+      refl);
+  writes = λ n.
+      ap (λ x. shelf_writes x n) e
+      ∙ ap (λ u. option_map_or (λ f. f.writes) u s.shared_writes) (read_under s name offset size n)
+      ∙ kept_or (λ f. f.writes) (change s name offset size) true (bytes_eq n name) (held_under n s.files) s.shared_writes (read_writes (read_fails s name) (read_size s name offset size));
   grows = λ n.
       let P : ℕ → Type 0 = λ k. shelf_reads s n ≤ k in
-      subst P (sym (ap (λ x. shelf_reads x n) e ∙ reads_are s name n))
-      (count_grows (λ f. f.reads) with_failed_read (read_fails s name) (bytes_eq n name) (held_under n s.files) s.shared_reads (if is_held s name then s.shared_reads else one_more s.shared_reads) (shared_grows (is_held s name) s.shared_reads) (λ f. grows_one f.reads));
+      subst P (sym (ap (λ x. shelf_reads x n) e ∙ reads_are s name offset size n))
+      (count_grows (λ f. f.reads) (change s name offset size) true (bytes_eq n name) (held_under n s.files) s.shared_reads (shared_after s name) (shared_grows (is_held s name) s.shared_reads) (read_grows (read_fails s name) (read_size s name offset size)));
   others = λ n apart held.
-      ap (λ x. shelf_reads x n) e ∙ reads_are s name n
-      ∙ count_others (λ f. f.reads) (λ f. f.bytes) with_failed_read (read_fails s name) (bytes_eq n name) (held_under n s.files) s.shared_reads (if is_held s name then s.shared_reads else one_more s.shared_reads) (other_name n name apart) held;
+      ap (λ x. shelf_reads x n) e ∙ reads_are s name offset size n
+      ∙ count_others (λ f. f.reads) (λ f. f.bytes) (change s name offset size) true (bytes_eq n name) (held_under n s.files) s.shared_reads (shared_after s name) (other_name n name apart) held;
+  reads_kept = λ n h.
+      let P : ShelfState → Type 0 = λ x. IsTrue (promises_reads x n) in
+      let w = reads_facts s n h in (
+        subst P (sym e) (ap (λ b. none_scheduled s.failing && b) (held_after s name offset size n) ∙ h),
+        ap (λ x. shelf_reads x n) e ∙ reads_are s name offset size n
+            ∙ quiet (read_fails s name) (is_scheduled s.failing s.calls) (bytes_eq n name) (read_size s name offset size) (held_under name s.files) (held_under n s.files) s.shared_reads (shared_after s name)
+            (same_file name n s.files) refl (none_fails s.failing s.calls w.none) w.held,
+      );
+  writes_kept = λ n bytes h.
+      let P : ShelfState → Type 0 = λ x. IsTrue (promises_writes x n bytes) in
+      subst P (sym e) (ap (λ b. none_scheduled s.failing && (b || nat_lt 0 s.places) && nat_le bytes s.room) (held_after s name offset size n) ∙ h);
 }
 
-pub read_rose : (s t : ShelfState) (name : List ℕ) → t ≡ read_after s name → read_fails s name ≡ true → Rose (shelf_reads s name) (shelf_reads t name)
-read_rose s t name e fails =
-    let P : ℕ → Type 0 = λ k. Rose (shelf_reads s name) k in
-    subst P (sym (ap (λ x. shelf_reads x name) e ∙ reads_are s name name))
-    (count_rose (λ f. f.reads) with_failed_read (read_fails s name) (bytes_eq name name) (held_under name s.files) s.shared_reads fails (same_name name) (λ _. refl))
+-- a promised read does not fail
+passes : (scheduled : Bool) (u : Option Held) → scheduled ≡ false → IsSome u → (scheduled || not (is_some u)) ≡ false
+passes true u t h = absurd (false≢true (sym t))
+passes false (Some f) t h = refl
+passes false None t h = absurd (false≢true h)
 
--- no call of a shelf that was told of no failure was told to fail
-pub told_nothing : (failing : List ℕ) (calls : ℕ) → failing ≡ [] → is_told failing calls ≡ false
-told_nothing failing calls h = ap (λ xs. is_told xs calls) h
+pub is_fine : {T E : Type 0} (result : Result T E) → is_err result ≡ false → IsOk result
+is_fine (Ok _) h = refl
+is_fine (Err _) h = absurd (false≢true (sym h))
 
-pub read_keeps_reading : (s t : ShelfState) (name : List ℕ) → t ≡ read_after s name → KeepsWell (ReadsWell s) (ReadsWell t) (shelf_reads s) (shelf_reads t)
-read_keeps_reading s t name e = λ n well.
-    let P : ShelfState → Type 0 = λ x. ReadsWell x n in
-    let Q : Option Held → Type 0 = λ u. IsSome u in (
-      subst P (sym e) (well.0, subst Q (sym (read_under s name n)) (still_held with_failed_read (read_fails s name) (bytes_eq n name) (held_under n s.files) well.1)),
-      ap (λ x. shelf_reads x n) e ∙ reads_are s name n
-          ∙ count_well (λ f. f.reads) with_failed_read (read_fails s name) (bytes_eq n name) (is_told s.failing s.calls) (held_under name s.files) (held_under n s.files) s.shared_reads (if is_held s name then s.shared_reads else one_more s.shared_reads)
-          (same_file name n s.files) refl (told_nothing s.failing s.calls well.0) well.1,
-    )
+pub read_promised : {E : Type 0} (s : ShelfState) (name : List ℕ) (result : Result ℕ E) → is_err result ≡ read_fails s name → IsTrue (promises_reads s name) → IsOk result
+read_promised s name result exact h =
+    let w = reads_facts s name h in
+    is_fine result (exact ∙ passes (is_scheduled s.failing s.calls) (held_under name s.files) (none_fails s.failing s.calls w.none) w.held)
 
-pub held_same : (change : Held → Held) (changed q : Bool) (u : Option Held) → is_some (file_after changed q change u) ≡ is_some u
-held_same change true true None = refl
-held_same change true true (Some f) = refl
-held_same change true false u = refl
-held_same change false q u = refl
+-- bytes handed out
 
-pub read_keeps_writing : (s t : ShelfState) (name : List ℕ) → t ≡ read_after s name → (bytes : ℕ) → KeepsWell (λ n. WritesWell s n bytes) (λ n. WritesWell t n bytes) (shelf_writes s) (shelf_writes t)
-read_keeps_writing s t name e = λ bytes n well.
-    let P : ShelfState → Type 0 = λ x. WritesWell x n bytes in
-    let Q : Bool → Type 0 = λ b. 0 < s.places + (if b then 1 else 0) in (
-      subst P (sym e) (well.0, subst Q (sym (ap is_some (read_under s name n) ∙ held_same with_failed_read (read_fails s name) (bytes_eq n name) (held_under n s.files))) well.1, well.2),
-      read_other_kind s t name e n,
-    )
+handed_step : (fails q : Bool) (count : ℕ) (u : Option Held) → option_map_or (λ f. f.handed) (file_after true q (with_read fails count) u) 0 ≤ option_map_or (λ f. f.handed) u 0 + (if q then (if fails then 0 else count) else 0)
+handed_step fails true count None = omega arith
+handed_step true true count (Some f) = omega arith
+handed_step false true count (Some f) = omega arith
+handed_step fails false count u = omega arith
+
+given_is : {E : Type 0} (result : Result ℕ E) (fails : Bool) (count : ℕ) → is_err result ≡ fails → IfOk result (λ k. k ≡ count) → (if fails then 0 else count) ≡ given result
+given_is (Ok k) true count e c = absurd (false≢true e)
+given_is (Ok k) false count e c = sym c
+given_is (Err x) true count e c = refl
+given_is (Err x) false count e c = absurd (false≢true (sym e))
+
+pub read_handed : {E : Type 0} (s t : ShelfState) (name : List ℕ) (offset size : ℕ) (result : Result ℕ E) → t ≡ read_after s name offset size → is_err result ≡ read_fails s name → IfOk result (λ k. k ≡ read_size s name offset size) → HandsOut name (given result) (shelf_view s) (shelf_view t)
+read_handed s t name offset size result e exact count = λ n.
+    let P : ℕ → Type 0 = λ k. k ≤ shelf_handed s n + (if bytes_eq n name then given result else 0) in
+    let Q : ℕ → Type 0 = λ k. option_map_or (λ f. f.handed) (file_after true (bytes_eq n name) (change s name offset size) (held_under n s.files)) 0 ≤ shelf_handed s n + (if bytes_eq n name then k else 0) in
+    subst P (sym (ap (λ x. shelf_handed x n) e ∙ ap (λ u. option_map_or (λ f. f.handed) u 0) (read_under s name offset size n)))
+    (subst Q (given_is result (read_fails s name) (read_size s name offset size) exact count)
+    (handed_step (read_fails s name) (bytes_eq n name) (read_size s name offset size) (held_under n s.files)))

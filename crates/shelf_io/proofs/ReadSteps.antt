@@ -2,13 +2,12 @@
 use Rattle.std.proofs.Common.{◌≡◌, ◌-◌, ◌≤◌, ◌||◌, not, ℕ, Bool, true, false, Option, Some, None, List, length, get_or, if◌then◌else◌, is_some, min, take, drop, Ok, refl, sym, ap, ◌∙◌, arith}
 use Rattle.std.proofs.Math.ListN.{set}
 use Rattle.std.proofs.lemmas.Bool.{false≢true}
-use Rattle.shelf_io.specs.Calls.{one_more, is_told}
-use Rattle.shelf_io.specs.Held.{Held, held_under, place_of, change_under, with_failed_read}
+use Rattle.shelf_io.specs.Calls.{one_more, is_scheduled}
+use Rattle.shelf_io.specs.Held.{Held, held_under, place_of, change_under, with_failed_read, with_handed, with_read}
 use Rattle.shelf_io.specs.MemShelf.{ShelfState, is_held, read_fails, read_after, read_size, shelf_contents}
 use Rattle.shelf_io.specs.declared.failed.Failed.{Failed}
 use Rattle.shelf_io.specs.Reading.{Reads}
 use Rattle.shelf_io.proofs.Files.{change_at, change_missing, read_there, read_nowhere}
-use Rattle.shelf_io.proofs.Shelves.{choose_true, choose_false}
 
 or_missing : (told : Bool) (o : Option Held) → o ≡ None → true ≡ (told || not (is_some o))
 or_missing true o h = refl
@@ -32,59 +31,71 @@ shared_missing : (o : Option Held) (shared : ℕ) → o ≡ None → one_more sh
 shared_missing None shared h = refl
 shared_missing (Some g) shared h = cc
 
-state_is : (s : ShelfState) (name : List ℕ) (files : List Held) (shared calls : ℕ) → files ≡ (if read_fails s name then change_under name with_failed_read s.files else s.files) → shared ≡ (if is_held s name then s.shared_reads else one_more s.shared_reads) → calls ≡ one_more s.calls
-    → record s { files = files; shared_reads = shared; calls = calls } ≡ read_after s name
-state_is s name files shared calls f g h = λ i. record s { files = f i; shared_reads = g i; calls = h i }
+-- a read that fails, and one that does not, as changes of a file
+failing : (fails : Bool) (count : ℕ) → true ≡ fails → with_failed_read ≡ with_read fails count
+failing true count h = refl
+failing false count h = absurd (false≢true (sym h))
+
+giving : (fails : Bool) (size count : ℕ) → false ≡ fails → size ≡ count → with_handed size ≡ with_read fails count
+giving true size count h e = absurd (false≢true h)
+giving false size count h e = ap (λ k. with_handed k) e
+
+state_is : (s : ShelfState) (name : List ℕ) (offset size : ℕ) (files : List Held) (shared calls : ℕ) → files ≡ change_under name (with_read (read_fails s name) (read_size s name offset size)) s.files → shared ≡ (if is_held s name then s.shared_reads else one_more s.shared_reads) → calls ≡ one_more s.calls
+    → record s { files = files; shared_reads = shared; calls = calls } ≡ read_after s name offset size
+state_is s name offset size files shared calls f g h = λ i. record s { files = f i; shared_reads = g i; calls = h i }
 
 -- a read of a name that is not held fails
 pub missing_fails : (s : ShelfState) (name : List ℕ) (seen : List Held) → seen ≡ s.files → None ≡ place_of name seen → true ≡ read_fails s name
-missing_fails s name seen e p = or_missing (is_told s.failing s.calls) (held_under name s.files) (read_nowhere name s.files seen e p)
+missing_fails s name seen e p = or_missing (is_scheduled s.failing s.calls) (held_under name s.files) (read_nowhere name s.files seen e p)
 
 -- .. and raises the shared count
-pub missing_after : (s : ShelfState) (name : List ℕ) (seen : List Held) (shared calls : ℕ) → seen ≡ s.files → None ≡ place_of name seen → shared ≡ one_more s.shared_reads → calls ≡ one_more s.calls
-    → record s { shared_reads = shared; calls = calls } ≡ read_after s name
-missing_after s name seen shared calls e p g h =
+pub missing_after : (s : ShelfState) (name : List ℕ) (offset size : ℕ) (seen : List Held) (shared calls : ℕ) → seen ≡ s.files → None ≡ place_of name seen → shared ≡ one_more s.shared_reads → calls ≡ one_more s.calls
+    → record s { shared_reads = shared; calls = calls } ≡ read_after s name offset size
+missing_after s name offset size seen shared calls e p g h =
     let gone = read_nowhere name s.files seen e p in
-    state_is s name s.files shared calls
-    (sym (change_missing name with_failed_read s.files gone) ∙ choose_true (read_fails s name) (change_under name with_failed_read s.files) s.files (sym (missing_fails s name seen e p)))
+    state_is s name offset size s.files shared calls
+    (sym (change_missing name (with_read (read_fails s name) (read_size s name offset size)) s.files gone))
     (g ∙ shared_missing (held_under name s.files) s.shared_reads gone) h
 
--- a read that was told to fail raises the count of its file
-pub told_after : (s : ShelfState) (name : List ℕ) (seen : List Held) (at calls : ℕ) (d file : Held) (told : Bool) → seen ≡ s.files → Some at ≡ place_of name seen → d ≡ get_or s.files at d → told ≡ is_told s.failing s.calls → told ≡ true → file ≡ with_failed_read d → calls ≡ one_more s.calls
-    → record s { files = set s.files at file; calls = calls } ≡ read_after s name
-told_after s name seen at calls d file told e p g t said w h =
+-- a change at the place of the name
+changed : (s : ShelfState) (name : List ℕ) (seen : List Held) (at : ℕ) (d file : Held) (change : Held → Held) → seen ≡ s.files → Some at ≡ place_of name seen → d ≡ get_or s.files at d → file ≡ change d → set s.files at file ≡ change_under name change s.files
+changed s name seen at d file change e p g w =
+    ap (λ f. set s.files at f) (w ∙ ap change g) ∙ change_at name change s.files at d (ap (place_of name) (sym e) ∙ sym p)
+
+-- a read that is scheduled to fail raises the count of its file
+pub told_after : (s : ShelfState) (name : List ℕ) (offset size : ℕ) (seen : List Held) (at calls : ℕ) (d file : Held) (told : Bool) → seen ≡ s.files → Some at ≡ place_of name seen → d ≡ get_or s.files at d → told ≡ is_scheduled s.failing s.calls → told ≡ true → file ≡ with_failed_read d → calls ≡ one_more s.calls
+    → record s { files = set s.files at file; calls = calls } ≡ read_after s name offset size
+told_after s name offset size seen at calls d file told e p g t said w h =
     let found = read_there name s.files seen at d e p g in
-    let fails : true ≡ read_fails s name = or_told (is_told s.failing s.calls) (held_under name s.files) (sym said ∙ t) in
-    let changed : set s.files at file ≡ change_under name with_failed_read s.files =
-    ap (λ f. set s.files at f) (w ∙ ap with_failed_read g) ∙ change_at name with_failed_read s.files at d (ap (place_of name) (sym e) ∙ sym p) in
-    state_is s name (set s.files at file) s.shared_reads calls
-    (changed ∙ choose_true (read_fails s name) (change_under name with_failed_read s.files) s.files (sym fails))
+    let fails : true ≡ read_fails s name = or_told (is_scheduled s.failing s.calls) (held_under name s.files) (sym said ∙ t) in
+    state_is s name offset size (set s.files at file) s.shared_reads calls
+    (changed s name seen at d file with_failed_read e p g w ∙ ap (λ change. change_under name change s.files) (failing (read_fails s name) (read_size s name offset size) fails))
     (shared_held (held_under name s.files) d s.shared_reads found) h
 
--- a read of a held name that was not told to fail passes
-pub held_passes : (s : ShelfState) (name : List ℕ) (seen : List Held) (at : ℕ) (d : Held) (told : Bool) → seen ≡ s.files → Some at ≡ place_of name seen → d ≡ get_or s.files at d → told ≡ is_told s.failing s.calls → told ≡ false → false ≡ read_fails s name
+-- a read of a held name that is not scheduled to fail passes
+pub held_passes : (s : ShelfState) (name : List ℕ) (seen : List Held) (at : ℕ) (d : Held) (told : Bool) → seen ≡ s.files → Some at ≡ place_of name seen → d ≡ get_or s.files at d → told ≡ is_scheduled s.failing s.calls → told ≡ false → false ≡ read_fails s name
 held_passes s name seen at d told e p g t unsaid =
-    or_held (is_told s.failing s.calls) (held_under name s.files) d (sym unsaid ∙ t) (read_there name s.files seen at d e p g)
-
--- .. and changes the number of calls alone
-pub held_after : (s : ShelfState) (name : List ℕ) (seen : List Held) (at calls : ℕ) (d : Held) (told : Bool) → seen ≡ s.files → Some at ≡ place_of name seen → d ≡ get_or s.files at d → told ≡ is_told s.failing s.calls → told ≡ false → calls ≡ one_more s.calls
-    → record s { calls = calls } ≡ read_after s name
-held_after s name seen at calls d told e p g t unsaid h =
-    let found = read_there name s.files seen at d e p g in
-    state_is s name s.files s.shared_reads calls
-    (choose_false (read_fails s name) (change_under name with_failed_read s.files) s.files (sym (held_passes s name seen at d told e p g t unsaid)))
-    (shared_held (held_under name s.files) d s.shared_reads found) h
+    or_held (is_scheduled s.failing s.calls) (held_under name s.files) d (sym unsaid ∙ t) (read_there name s.files seen at d e p g)
 
 -- how many bytes a read of a held name gives
-pub held_size : (s : ShelfState) (name : List ℕ) (seen : List Held) (at place size count : ℕ) (d : Held) (bytes : List ℕ) → seen ≡ s.files → Some at ≡ place_of name seen → d ≡ get_or s.files at d → bytes ≡ d.bytes → count ≡ min s.most (min size (length bytes - place)) → count ≡ read_size s name place size
-held_size s name seen at place size count d bytes e p g b h =
+pub held_size : (s : ShelfState) (name : List ℕ) (seen : List Held) (at offset size count : ℕ) (d : Held) (bytes : List ℕ) → seen ≡ s.files → Some at ≡ place_of name seen → d ≡ get_or s.files at d → bytes ≡ d.bytes → count ≡ min s.most (min size (length bytes - offset)) → count ≡ read_size s name offset size
+held_size s name seen at offset size count d bytes e p g b h =
     let found = read_there name s.files seen at d e p g in
-    rw found (h ∙ ap (λ xs. min s.most (min size (length xs - place))) b)
+    rw found (h ∙ ap (λ xs. min s.most (min size (length xs - offset))) b)
+
+-- .. and counts them
+pub held_after : (s : ShelfState) (name : List ℕ) (offset size : ℕ) (seen : List Held) (at count calls : ℕ) (d file : Held) (told : Bool) → seen ≡ s.files → Some at ≡ place_of name seen → d ≡ get_or s.files at d → told ≡ is_scheduled s.failing s.calls → told ≡ false → count ≡ read_size s name offset size → file ≡ with_handed count d → calls ≡ one_more s.calls
+    → record s { files = set s.files at file; calls = calls } ≡ read_after s name offset size
+held_after s name offset size seen at count calls d file told e p g t unsaid k w h =
+    let found = read_there name s.files seen at d e p g in
+    state_is s name offset size (set s.files at file) s.shared_reads calls
+    (changed s name seen at d file (with_handed count) e p g w ∙ ap (λ change. change_under name change s.files) (giving (read_fails s name) count (read_size s name offset size) (held_passes s name seen at d told e p g t unsaid) k))
+    (shared_held (held_under name s.files) d s.shared_reads found) h
 
 -- .. and which
-pub held_bytes : (s : ShelfState) (name : List ℕ) (seen : List Held) (at place count : ℕ) (d : Held) (bytes into : List ℕ) → seen ≡ s.files → Some at ≡ place_of name seen → d ≡ get_or s.files at d → bytes ≡ d.bytes → 1 ≤ s.most → count ≡ min s.most (min (length into) (length bytes - place)) → take count into ≡ take count (drop place bytes)
-    → Reads {E = Failed} (Some (shelf_contents s)) name place (Ok count) into
-held_bytes s name seen at place count d bytes into e p g b most h t =
+pub held_bytes : (s : ShelfState) (name : List ℕ) (seen : List Held) (at offset count : ℕ) (d : Held) (bytes into : List ℕ) → seen ≡ s.files → Some at ≡ place_of name seen → d ≡ get_or s.files at d → bytes ≡ d.bytes → 1 ≤ s.most → count ≡ min s.most (min (length into) (length bytes - offset)) → take count into ≡ take count (drop offset bytes)
+    → Reads {E = Failed} (Some (shelf_contents s)) name offset (Ok count) into
+held_bytes s name seen at offset count d bytes into e p g b most h t =
     let found = read_there name s.files seen at d e p g in
     let l : length bytes ≡ length d.bytes = ap length b in
-    rw found (t ∙ ap (λ xs. take count (drop place xs)) b, omega arith, λ zero some. omega arith)
+    rw found (t ∙ ap (λ xs. take count (drop offset xs)) b, omega arith, λ zero some. omega arith)

@@ -47,7 +47,7 @@ with_step None (Some g) false r bytes room new same e b = refl
 -- bytes put under a name are what the contents have there, and nothing else is changed
 pub contents_with : (name bytes : List ℕ) (s : ShelfState) → shelf_contents (shelf_with name bytes s) ≡ put_bytes name bytes (shelf_contents s)
 contents_with name bytes s =
-    let new : Held = record { name = name; bytes = bytes; reserved = length bytes + s.room; reads = s.shared_reads; writes = s.shared_writes } in
+    let new : Held = record { name = name; bytes = bytes; reserved = length bytes + s.room; reads = s.shared_reads; writes = s.shared_writes; handed = 0 } in
     let held : Bool = is_some (held_under name s.files) in
     same_contents (shelf_contents (shelf_with name bytes s)) (put_bytes name bytes (shelf_contents s))
     (λ n. let e : held_under n (if held then change_under name (with_bytes bytes s.room) s.files else s.files ++ new ∷ []) ≡ (if held then (if bytes_eq n name then option_map (with_bytes bytes s.room) (held_under n s.files) else held_under n s.files) else (if is_some (held_under n s.files) then held_under n s.files else (if bytes_eq name n then Some new else None)))
@@ -68,16 +68,16 @@ choose_false false x y h = refl
 pub with_held : (name bytes : List ℕ) (s : ShelfState) (at : ℕ) (d file : Held) (seen : List Held) → seen ≡ s.files → Some at ≡ place_of name seen → d ≡ get_or s.files at d → file ≡ with_bytes bytes s.room d
     → record s { files = set s.files at file } ≡ shelf_with name bytes s
 with_held name bytes s at d file seen e p g w =
-    let new : Held = record { name = name; bytes = bytes; reserved = length bytes + s.room; reads = s.shared_reads; writes = s.shared_writes } in
+    let new : Held = record { name = name; bytes = bytes; reserved = length bytes + s.room; reads = s.shared_reads; writes = s.shared_writes; handed = 0 } in
     let found = read_there name s.files seen at d e p g in
     let changed : set s.files at file ≡ change_under name (with_bytes bytes s.room) s.files =
     ap (λ f. set s.files at f) (w ∙ ap (with_bytes bytes s.room) g) ∙ change_at name (with_bytes bytes s.room) s.files at d (ap (place_of name) (sym e) ∙ sym p) in
     ap (λ (fs : List Held). record s { files = fs }) (changed ∙ choose_true (is_some (held_under name s.files)) (change_under name (with_bytes bytes s.room) s.files) (s.files ++ new ∷ []) (ap is_some found))
 
 -- bytes put under a name that was not held
-pub with_new : (name bytes : List ℕ) (s : ShelfState) (seen files : List Held) (file : Held) → seen ≡ s.files → None ≡ place_of name seen → file ≡ record { name = name; bytes = bytes; reserved = length bytes + s.room; reads = s.shared_reads; writes = s.shared_writes } → files ≡ s.files ++ file ∷ []
+pub with_new : (name bytes : List ℕ) (s : ShelfState) (seen files : List Held) (file : Held) → seen ≡ s.files → None ≡ place_of name seen → file ≡ record { name = name; bytes = bytes; reserved = length bytes + s.room; reads = s.shared_reads; writes = s.shared_writes; handed = 0 } → files ≡ s.files ++ file ∷ []
     → record s { files = files } ≡ shelf_with name bytes s
 with_new name bytes s seen files file e p f g =
-    let new : Held = record { name = name; bytes = bytes; reserved = length bytes + s.room; reads = s.shared_reads; writes = s.shared_writes } in
+    let new : Held = record { name = name; bytes = bytes; reserved = length bytes + s.room; reads = s.shared_reads; writes = s.shared_writes; handed = 0 } in
     let missing = read_nowhere name s.files seen e p in
     ap (λ (fs : List Held). record s { files = fs }) (g ∙ ap (λ x. s.files ++ x ∷ []) f ∙ choose_false (is_some (held_under name s.files)) (change_under name (with_bytes bytes s.room) s.files) (s.files ++ new ∷ []) (ap is_some missing))

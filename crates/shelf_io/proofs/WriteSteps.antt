@@ -4,7 +4,7 @@ use Rattle.std.proofs.Math.ListN.{set}
 use Rattle.std.proofs.lemmas.Bool.{false≢true}
 use Rattle.std.proofs.lemmas.List.Elements.{All-push, All-take}
 use Rattle.std.specs.Str.{bytes_eq}
-use Rattle.shelf_io.specs.Calls.{one_more, is_told}
+use Rattle.shelf_io.specs.Calls.{one_more, is_scheduled}
 use Rattle.shelf_io.specs.Held.{Held, HaveRoom, PlacesHaveRoom, held_under, place_of, change_under, with_failed_write, without_bytes, with_piece}
 use Rattle.shelf_io.specs.MemShelf.{ShelfState, is_held, create_fails, create_after, failed_write, emptied, added, append_fails, append_size, append_after}
 use Rattle.shelf_io.proofs.Files.{change_at, change_missing, read_there, read_nowhere}
@@ -51,22 +51,22 @@ change_there name change files seen at d file e p g w =
     ap (λ f. set files at f) (w ∙ ap change g) ∙ change_at name change files at d (ap (place_of name) (sym e) ∙ sym p)
 
 -- a create of a held name that was told to fail
-pub told_create : (s : ShelfState) (name : List ℕ) (seen : List Held) (at calls : ℕ) (d file : Held) (told : Bool) → seen ≡ s.files → Some at ≡ place_of name seen → d ≡ get_or s.files at d → told ≡ is_told s.failing s.calls → told ≡ true → file ≡ with_failed_write d → calls ≡ one_more s.calls
+pub told_create : (s : ShelfState) (name : List ℕ) (seen : List Held) (at calls : ℕ) (d file : Held) (told : Bool) → seen ≡ s.files → Some at ≡ place_of name seen → d ≡ get_or s.files at d → told ≡ is_scheduled s.failing s.calls → told ≡ true → file ≡ with_failed_write d → calls ≡ one_more s.calls
     → record s { files = set s.files at file; calls = calls } ≡ create_after s name
 told_create s name seen at calls d file told e p g t said w h =
     failed_is s name (set s.files at file) s.shared_writes calls
-    (or_true (is_told s.failing s.calls) (not (is_held s name) && s.places == 0) (sym said ∙ t))
+    (or_true (is_scheduled s.failing s.calls) (not (is_held s name) && s.places == 0) (sym said ∙ t))
     (change_there name with_failed_write s.files seen at d file e p g w)
     (held_shared (held_under name s.files) d s.shared_writes (read_there name s.files seen at d e p g)) h
 
 -- a create of a held name that was not told to fail passes
-pub held_create_passes : (s : ShelfState) (name : List ℕ) (seen : List Held) (at : ℕ) (d : Held) (told : Bool) → seen ≡ s.files → Some at ≡ place_of name seen → d ≡ get_or s.files at d → told ≡ is_told s.failing s.calls → told ≡ false → false ≡ create_fails s name
+pub held_create_passes : (s : ShelfState) (name : List ℕ) (seen : List Held) (at : ℕ) (d : Held) (told : Bool) → seen ≡ s.files → Some at ≡ place_of name seen → d ≡ get_or s.files at d → told ≡ is_scheduled s.failing s.calls → told ≡ false → false ≡ create_fails s name
 held_create_passes s name seen at d told e p g t unsaid =
-    or_neither (is_told s.failing s.calls) (not (is_held s name) && s.places == 0) (sym unsaid ∙ t)
+    or_neither (is_scheduled s.failing s.calls) (not (is_held s name) && s.places == 0) (sym unsaid ∙ t)
     (new_held (held_under name s.files) d (s.places == 0) (read_there name s.files seen at d e p g))
 
 -- .. and empties the file
-pub held_create : (s : ShelfState) (name : List ℕ) (seen : List Held) (at calls : ℕ) (d file : Held) (told : Bool) → seen ≡ s.files → Some at ≡ place_of name seen → d ≡ get_or s.files at d → told ≡ is_told s.failing s.calls → told ≡ false → file ≡ without_bytes d → calls ≡ one_more s.calls
+pub held_create : (s : ShelfState) (name : List ℕ) (seen : List Held) (at calls : ℕ) (d file : Held) (told : Bool) → seen ≡ s.files → Some at ≡ place_of name seen → d ≡ get_or s.files at d → told ≡ is_scheduled s.failing s.calls → told ≡ false → file ≡ without_bytes d → calls ≡ one_more s.calls
     → record s { files = set s.files at file; calls = calls } ≡ create_after s name
 held_create s name seen at calls d file told e p g t unsaid w h =
     let f = change_there name without_bytes s.files seen at d file e p g w in
@@ -75,12 +75,12 @@ held_create s name seen at calls d file told e p g t unsaid w h =
     ∙ choose_false (create_fails s name) (failed_write s name) (if is_held s name then emptied s name else added s name) (sym (held_create_passes s name seen at d told e p g t unsaid))
 
 -- a create of a new name that was told to fail, or for which no place is left, fails
-pub new_create_fails : (s : ShelfState) (name : List ℕ) (seen : List Held) → seen ≡ s.files → None ≡ place_of name seen → true ≡ (is_told s.failing s.calls || s.places == 0) → true ≡ create_fails s name
+pub new_create_fails : (s : ShelfState) (name : List ℕ) (seen : List Held) → seen ≡ s.files → None ≡ place_of name seen → true ≡ (is_scheduled s.failing s.calls || s.places == 0) → true ≡ create_fails s name
 new_create_fails s name seen e p h =
-    h ∙ ap (λ b. is_told s.failing s.calls || b) (new_missing (held_under name s.files) (s.places == 0) (read_nowhere name s.files seen e p))
+    h ∙ ap (λ b. is_scheduled s.failing s.calls || b) (new_missing (held_under name s.files) (s.places == 0) (read_nowhere name s.files seen e p))
 
 -- .. and raises the shared count
-pub new_create_failed : (s : ShelfState) (name : List ℕ) (seen : List Held) (shared calls : ℕ) → seen ≡ s.files → None ≡ place_of name seen → true ≡ (is_told s.failing s.calls || s.places == 0) → shared ≡ one_more s.shared_writes → calls ≡ one_more s.calls
+pub new_create_failed : (s : ShelfState) (name : List ℕ) (seen : List Held) (shared calls : ℕ) → seen ≡ s.files → None ≡ place_of name seen → true ≡ (is_scheduled s.failing s.calls || s.places == 0) → shared ≡ one_more s.shared_writes → calls ≡ one_more s.calls
     → record s { shared_writes = shared; calls = calls } ≡ create_after s name
 new_create_failed s name seen shared calls e p f g h =
     let gone = read_nowhere name s.files seen e p in
@@ -89,13 +89,13 @@ new_create_failed s name seen shared calls e p f g h =
     (g ∙ missing_shared (held_under name s.files) s.shared_writes gone) h
 
 -- a create of a new name for which a place is left passes
-pub new_create_passes : (s : ShelfState) (name : List ℕ) (seen : List Held) → seen ≡ s.files → None ≡ place_of name seen → false ≡ (is_told s.failing s.calls || s.places == 0) → false ≡ create_fails s name
+pub new_create_passes : (s : ShelfState) (name : List ℕ) (seen : List Held) → seen ≡ s.files → None ≡ place_of name seen → false ≡ (is_scheduled s.failing s.calls || s.places == 0) → false ≡ create_fails s name
 new_create_passes s name seen e p h =
-    h ∙ ap (λ b. is_told s.failing s.calls || b) (new_missing (held_under name s.files) (s.places == 0) (read_nowhere name s.files seen e p))
+    h ∙ ap (λ b. is_scheduled s.failing s.calls || b) (new_missing (held_under name s.files) (s.places == 0) (read_nowhere name s.files seen e p))
 
 -- .. and puts a file with no bytes behind the others
-pub new_create : (s : ShelfState) (name : List ℕ) (seen files : List Held) (file : Held) (places calls : ℕ) → seen ≡ s.files → None ≡ place_of name seen → false ≡ (is_told s.failing s.calls || s.places == 0) → files ≡ s.files ++ file ∷ []
-    → file ≡ record { name = name; bytes = []; reserved = s.room; reads = s.shared_reads; writes = s.shared_writes } → places ≡ s.places - 1 → calls ≡ one_more s.calls
+pub new_create : (s : ShelfState) (name : List ℕ) (seen files : List Held) (file : Held) (places calls : ℕ) → seen ≡ s.files → None ≡ place_of name seen → false ≡ (is_scheduled s.failing s.calls || s.places == 0) → files ≡ s.files ++ file ∷ []
+    → file ≡ record { name = name; bytes = []; reserved = s.room; reads = s.shared_reads; writes = s.shared_writes; handed = 0 } → places ≡ s.places - 1 → calls ≡ one_more s.calls
     → record s { files = files; places = places; calls = calls } ≡ create_after s name
 new_create s name seen files file places calls e p passes f w q h =
     let pushed = f ∙ ap (λ x. s.files ++ x ∷ []) w in
@@ -125,7 +125,7 @@ append_there s name piece seen at size room calls d file refused e p g r z w q h
     λ i. record s { files = f i; room = k i; calls = h i }
 
 -- a new file has memory for the room
-pub new_fits : (room reads writes : ℕ) (name : List ℕ) (file : Held) → file ≡ record { name = name; bytes = []; reserved = room; reads = reads; writes = writes } → length file.bytes + room ≤ file.reserved
+pub new_fits : (room reads writes : ℕ) (name : List ℕ) (file : Held) → file ≡ record { name = name; bytes = []; reserved = room; reads = reads; writes = writes; handed = 0 } → length file.bytes + room ≤ file.reserved
 new_fits room reads writes name file e =
     let P : Held → Type 0 = λ f. length f.bytes + room ≤ f.reserved in
     let least : 0 + room ≤ room = omega arith in

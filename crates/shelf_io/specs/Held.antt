@@ -2,15 +2,17 @@
 use Rattle.std.specs.Prelude.{◌+◌, ◌≤◌, ℕ, length, Bool, Option, Some, None, List, [], ◌∷◌, ◌++◌, if◌then◌else◌, option_map}
 use Rattle.std.specs.List.{All}
 use Rattle.std.specs.Str.{bytes_eq}
-use Rattle.shelf_io.specs.Calls.{one_more}
+use Rattle.shelf_io.specs.Calls.{count_more, one_more}
 
--- a file: its name and bytes, how many bytes its buffer was made for, and its counts of failed reads and writes
+-- a file: its name and bytes, how many bytes its buffer was made for, its counts of failed reads and writes, and how many
+-- bytes reads handed out
 pub record Held : Type 0 where
   pub name : List ℕ
   pub bytes : List ℕ
   pub reserved : ℕ
   pub reads : ℕ
   pub writes : ℕ
+  pub handed : ℕ
 
 -- the file under the name
 abbrev pub held_under : List ℕ → List Held → Option Held
@@ -36,6 +38,14 @@ with_bytes bytes room file = record file { bytes = bytes; reserved = length byte
 abbrev pub with_failed_read : Held → Held
 with_failed_read file = record file { reads = one_more file.reads }
 
+-- a file of which so many bytes more were handed out
+abbrev pub with_handed : ℕ → Held → Held
+with_handed count file = record file { handed = count_more count file.handed }
+
+-- a file after a read, which failed or gave so many bytes
+abbrev pub with_read : Bool → ℕ → Held → Held
+with_read fails count file = if fails then with_failed_read file else with_handed count file
+
 -- a file with one more failed write
 abbrev pub with_failed_write : Held → Held
 with_failed_write file = record file { writes = one_more file.writes }
@@ -44,7 +54,7 @@ with_failed_write file = record file { writes = one_more file.writes }
 abbrev pub without_bytes : Held → Held
 without_bytes file = record file { bytes = [] }
 
--- a file with a piece behind its bytes, and one more failed write where the call failed
+-- a file with a piece after its bytes, and one more failed write where the call failed
 abbrev pub with_piece : Bool → List ℕ → Held → Held
 with_piece fails piece file =
     record file { bytes = file.bytes ++ piece; writes = if fails then one_more file.writes else file.writes }

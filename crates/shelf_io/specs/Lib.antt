@@ -1,4 +1,5 @@
 pub mod Calls
+pub mod Changes
 pub mod Contents
 pub mod Counts
 pub mod Held
@@ -6,3 +7,5 @@ pub mod MemShelf
 pub mod MemSink
 pub mod Reading
 pub mod Taking
+pub mod View
+pub mod Whole

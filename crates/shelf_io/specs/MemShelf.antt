@@ -1,9 +1,10 @@
 -- a shelf in memory, and what its calls make of it
-use Rattle.std.specs.Prelude.{◌≡◌, ◌==◌, ◌&&◌, ◌≤◌, ◌<◌, ◌+◌, ◌-◌, ◌^◌, ◌||◌, not, ℕ, Bool, List, [], ◌∷◌, ◌++◌, length, take, min, if◌then◌else◌, option_map, is_some, IsSome}
+use Rattle.std.specs.Prelude.{◌==◌, ◌&&◌, ◌+◌, ◌-◌, ◌^◌, ◌||◌, not, ℕ, Bool, List, [], ◌∷◌, ◌++◌, length, take, min, if◌then◌else◌, option_map, is_some, Some, nat_le, nat_lt}
 use Rattle.std.specs.Option.{option_map_or}
-use Rattle.shelf_io.specs.Calls.{one_more, is_told, is_refused, fitting}
+use Rattle.shelf_io.specs.Calls.{one_more, is_scheduled, none_scheduled, is_refused, fitting}
 use Rattle.shelf_io.specs.Contents.{Contents}
-use Rattle.shelf_io.specs.Held.{Held, held_under, change_under, with_bytes, with_failed_read, with_failed_write, without_bytes, with_piece}
+use Rattle.shelf_io.specs.View.{ShelfView}
+use Rattle.shelf_io.specs.Held.{Held, held_under, change_under, with_bytes, with_failed_write, with_read, without_bytes, with_piece}
 
 -- the files, the counts that names which are not held share, the room for appended bytes, the places for new names,
 -- how many bytes a read gives at most, how many calls there were, and the numbers of the calls that fail
@@ -38,13 +39,28 @@ shelf_reads s name = option_map_or (λ file. file.reads) (held_under name s.file
 abbrev pub shelf_writes : ShelfState → List ℕ → ℕ
 shelf_writes s name = option_map_or (λ file. file.writes) (held_under name s.files) s.shared_writes
 
--- the shelf was told of no failure and holds the name
-abbrev pub ReadsWell : ShelfState → List ℕ → Type 0
-ReadsWell s name = (s.failing ≡ []) × IsSome (held_under name s.files)
+-- how many bytes reads of the name handed out
+abbrev pub shelf_handed : ShelfState → List ℕ → ℕ
+shelf_handed s name = option_map_or (λ file. file.handed) (held_under name s.files) 0
 
--- the shelf was told of no failure, holds the name or has a place for it, and has room for so many bytes
-abbrev pub WritesWell : ShelfState → List ℕ → ℕ → Type 0
-WritesWell s name bytes = (s.failing ≡ []) × (0 < s.places + (if is_held s name then 1 else 0)) × (bytes ≤ s.room)
+-- no call is scheduled to fail, and the name is held
+abbrev pub promises_reads : ShelfState → List ℕ → Bool
+promises_reads s name = none_scheduled s.failing && is_held s name
+
+-- no call is scheduled to fail, the name is held or there is a place for it, and there is room for so many bytes
+abbrev pub promises_writes : ShelfState → List ℕ → ℕ → Bool
+promises_writes s name bytes = none_scheduled s.failing && (is_held s name || nat_lt 0 s.places) && nat_le bytes s.room
+
+-- all that callers know of the shelf
+abbrev pub shelf_view : ShelfState → ShelfView
+shelf_view s = record {
+  contents = Some (shelf_contents s);
+  read_faults = shelf_reads s;
+  write_faults = shelf_writes s;
+  handed = shelf_handed s;
+  reads_promised = promises_reads s;
+  writes_promised = promises_writes s;
+}
 
 -- the shelf with these bytes under the name, which keeps its counts
 abbrev pub shelf_with : List ℕ → List ℕ → ShelfState → ShelfState
@@ -52,29 +68,29 @@ shelf_with name bytes s = record s {
   files =
       if is_held s name
       then change_under name (with_bytes bytes s.room) s.files
-      else s.files ++ record { name = name; bytes = bytes; reserved = length bytes + s.room; reads = s.shared_reads; writes = s.shared_writes } ∷ [];
+      else s.files ++ record { name = name; bytes = bytes; reserved = length bytes + s.room; reads = s.shared_reads; writes = s.shared_writes; handed = 0 } ∷ [];
 }
 
--- the next call was told to fail, or the name is not held
+-- the next call is scheduled to fail, or the name is not held
 abbrev pub read_fails : ShelfState → List ℕ → Bool
-read_fails s name = is_told s.failing s.calls || not (is_held s name)
+read_fails s name = is_scheduled s.failing s.calls || not (is_held s name)
 
--- the shelf after the next call, a read of the name
-abbrev pub read_after : ShelfState → List ℕ → ShelfState
-read_after s name = record s {
-  files = if read_fails s name then change_under name with_failed_read s.files else s.files;
+-- how many bytes a read that does not fail gives, into so many
+abbrev pub read_size : ShelfState → List ℕ → (offset size : ℕ) → ℕ
+read_size s name offset size =
+    min s.most (min size (option_map_or (λ file. length file.bytes - offset) (held_under name s.files) 0))
+
+-- the shelf after the next call, a read of the name from the offset on into so many bytes
+abbrev pub read_after : ShelfState → List ℕ → (offset size : ℕ) → ShelfState
+read_after s name offset size = record s {
+  files = change_under name (with_read (read_fails s name) (read_size s name offset size)) s.files;
   shared_reads = if is_held s name then s.shared_reads else one_more s.shared_reads;
   calls = one_more s.calls;
 }
 
--- how many bytes a read that does not fail gives, into so many
-abbrev pub read_size : ShelfState → List ℕ → ℕ → ℕ → ℕ
-read_size s name place size =
-    min s.most (min size (option_map_or (λ file. length file.bytes - place) (held_under name s.files) 0))
-
--- the next call was told to fail, or the name is new and no place is left
+-- the next call is scheduled to fail, or the name is new and no place is left
 abbrev pub create_fails : ShelfState → List ℕ → Bool
-create_fails s name = is_told s.failing s.calls || (not (is_held s name) && s.places == 0)
+create_fails s name = is_scheduled s.failing s.calls || (not (is_held s name) && s.places == 0)
 
 -- the shelf after a call that failed to write the name
 abbrev pub failed_write : ShelfState → List ℕ → ShelfState
@@ -91,7 +107,7 @@ emptied s name = record s { files = change_under name without_bytes s.files; cal
 -- the shelf after a call that gave a new name a place, with the counts that names which are not held share
 abbrev pub added : ShelfState → List ℕ → ShelfState
 added s name = record s {
-  files = s.files ++ record { name = name; bytes = []; reserved = s.room; reads = s.shared_reads; writes = s.shared_writes } ∷ [];
+  files = s.files ++ record { name = name; bytes = []; reserved = s.room; reads = s.shared_reads; writes = s.shared_writes; handed = 0 } ∷ [];
   places = s.places - 1;
   calls = one_more s.calls;
 }
@@ -100,13 +116,13 @@ added s name = record s {
 abbrev pub create_after : ShelfState → List ℕ → ShelfState
 create_after s name = if create_fails s name then failed_write s name else (if is_held s name then emptied s name else added s name)
 
--- the next call was told to fail, or the piece is longer than the room
+-- the next call is scheduled to fail, or the piece is longer than the room
 abbrev pub append_fails : ShelfState → List ℕ → Bool
-append_fails s piece = is_refused (is_told s.failing s.calls) s.room (length piece)
+append_fails s piece = is_refused (is_scheduled s.failing s.calls) s.room (length piece)
 
 -- how many bytes of the piece the next call adds
 abbrev pub append_size : ShelfState → List ℕ → ℕ
-append_size s piece = fitting (is_told s.failing s.calls) s.room (length piece)
+append_size s piece = fitting (is_scheduled s.failing s.calls) s.room (length piece)
 
 -- the shelf after the next call, an append of the piece to a held name
 abbrev pub append_after : ShelfState → List ℕ → List ℕ → ShelfState

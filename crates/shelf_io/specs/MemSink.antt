@@ -1,6 +1,7 @@
 -- a sink in memory, and what its calls make of it
-use Rattle.std.specs.Prelude.{◌≡◌, ◌≤◌, ◌-◌, ℕ, Bool, List, [], ◌∷◌, ◌++◌, length, take, if◌then◌else◌}
-use Rattle.shelf_io.specs.Calls.{one_more, is_told, is_refused, fitting}
+use Rattle.std.specs.Prelude.{◌-◌, ◌&&◌, ℕ, Bool, List, [], ◌∷◌, ◌++◌, length, take, if◌then◌else◌, Some, nat_le}
+use Rattle.shelf_io.specs.View.{SinkView}
+use Rattle.shelf_io.specs.Calls.{one_more, is_scheduled, none_scheduled, is_refused, fitting}
 
 -- the bytes taken, how many more it can take, its count of faults, how many calls of put there were,
 -- and the numbers of the calls that fail
@@ -15,13 +16,13 @@ pub record SinkState : Type 0 where
 abbrev pub fresh_sink : ℕ → SinkState
 fresh_sink room = record { taken = []; room = room; faults = 0; calls = 0; failing = [] }
 
--- the next call was told to fail, or the piece is longer than the room
+-- the next call is scheduled to fail, or the piece is longer than the room
 abbrev pub put_fails : SinkState → List ℕ → Bool
-put_fails s piece = is_refused (is_told s.failing s.calls) s.room (length piece)
+put_fails s piece = is_refused (is_scheduled s.failing s.calls) s.room (length piece)
 
 -- how many bytes of the piece the next call takes
 abbrev pub put_size : SinkState → List ℕ → ℕ
-put_size s piece = fitting (is_told s.failing s.calls) s.room (length piece)
+put_size s piece = fitting (is_scheduled s.failing s.calls) s.room (length piece)
 
 -- the sink after the next call
 abbrev pub put_after : SinkState → List ℕ → SinkState
@@ -37,6 +38,10 @@ put_after s piece = record {
 abbrev pub failing_sink : ℕ → SinkState → SinkState
 failing_sink call s = record s { failing = s.failing ++ call ∷ [] }
 
--- the sink was told of no failure and has room for so many bytes
-abbrev pub PutsWell : SinkState → ℕ → Type 0
-PutsWell s bytes = (s.failing ≡ []) × (bytes ≤ s.room)
+-- no call is scheduled to fail, and there is room for so many bytes
+abbrev pub promises_puts : SinkState → ℕ → Bool
+promises_puts s bytes = none_scheduled s.failing && nat_le bytes s.room
+
+-- all that callers know of the sink
+abbrev pub sink_view : SinkState → SinkView
+sink_view s = record { taken = Some s.taken; faults = s.faults; puts_promised = promises_puts s }

@@ -1,25 +1,25 @@
--- what a read from a place of a file gives
+-- What a read from a position of a file gives.
 use Rattle.std.specs.Prelude.{◌≡◌, ◌-◌, ◌<◌, ◌≤◌, ℕ, Option, Some, None, Result, Ok, Err, List, [], length, take, drop}
 use Rattle.shelf_io.specs.Contents.{Contents}
 
--- a file that is held gives its bytes from the place on, none only at its end; a name that is not held fails
+-- a file that is held gives its bytes from the offset on, none only at its end; a name that is not held fails
 abbrev pub ReadsFile : {E : Type 0} → Option (List ℕ) → ℕ → Result ℕ E → List ℕ → Type 0
-ReadsFile file place (Err _) into = Unit {0}
-ReadsFile None place (Ok count) into = ⊥
-ReadsFile (Some bytes) place (Ok count) into =
-    (take count into ≡ take count (drop place bytes)) × (count ≤ length bytes - place) × (count ≡ 0 → 0 < length into → length bytes ≤ place)
+ReadsFile file offset (Err _) into = Unit {0}
+ReadsFile None offset (Ok count) into = ⊥
+ReadsFile (Some bytes) offset (Ok count) into =
+    (take count into ≡ take count (drop offset bytes)) × (count ≤ length bytes - offset) × (count ≡ 0 → 0 < length into → length bytes ≤ offset)
 
--- where the shelf tells its files, the read gives those of the file under the name
+-- where the files are known, the read gives bytes of the file under the name
 abbrev pub Reads : {E : Type 0} → Option Contents → List ℕ → ℕ → Result ℕ E → List ℕ → Type 0
-Reads None name place result into = Unit {0}
-Reads (Some contents) name place result into = ReadsFile (contents.file name) place result into
+Reads None name offset result into = Unit {0}
+Reads (Some contents) name offset result into = ReadsFile (contents.file name) offset result into
 
--- these bytes are a front of the file, and none where it is not held
-abbrev pub IsFrontOf : Option (List ℕ) → List ℕ → Type 0
-IsFrontOf None front = front ≡ []
-IsFrontOf (Some bytes) front = front ≡ take (length front) bytes
+-- these bytes are a prefix of the file, and none where it is not held
+abbrev pub IsFilePrefix : Option (List ℕ) → List ℕ → Type 0
+IsFilePrefix None prefix = prefix ≡ []
+IsFilePrefix (Some bytes) prefix = prefix ≡ take (length prefix) bytes
 
--- where the shelf tells its files, these bytes are a front of the file under the name
-abbrev pub IsFront : Option Contents → List ℕ → List ℕ → Type 0
-IsFront None name front = Unit {0}
-IsFront (Some contents) name front = IsFrontOf (contents.file name) front
+-- where the files are known, these bytes are a prefix of the file under the name
+abbrev pub IsKnownPrefix : Option Contents → List ℕ → List ℕ → Type 0
+IsKnownPrefix None name prefix = Unit {0}
+IsKnownPrefix (Some contents) name prefix = IsFilePrefix (contents.file name) prefix

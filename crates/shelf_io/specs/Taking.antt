@@ -1,13 +1,26 @@
--- what a sink does with a piece
-use Rattle.std.specs.Prelude.{◌≡◌, ◌+◌, ℕ, Option, Result, IsOk, List, length, take}
+-- What a sink does with a piece.
+use Rattle.std.specs.Prelude.{◌≡◌, ◌+◌, ℕ, Option, Result, Ok, Err, IsOk, IsTrue, List, length, take, is_err}
 use Rattle.std.specs.Io.KnownBytes.{append_known}
+use Rattle.shelf_io.specs.Counts.{CountsFailure}
+use Rattle.shelf_io.specs.View.{SinkView}
 
--- what was taken grew by a front of the piece, where the sink tells it
-abbrev pub AddsFront : (old new : Option (List ℕ)) → List ℕ → Type 0
-AddsFront old new piece = (k : ℕ) × (new ≡ append_known old (take k piece))
+-- what was taken grew by a prefix of the piece, where it is known
+abbrev pub AddsPrefix : (old new : Option (List ℕ)) → List ℕ → Type 0
+AddsPrefix old new piece = (k : ℕ) × (new ≡ append_known old (take k piece))
 
--- where the piece and so many bytes more can be put with no failure, the call does not fail, the count stays,
--- and those more can be put afterwards
-abbrev pub TakesWell : {T E : Type 0} → (old new : ℕ → Type 0) (before now : ℕ) → List ℕ → Result T E → Type 0
-TakesWell old new before now piece result =
-    (more : ℕ) → old (length piece + more) → IsOk result × (now ≡ before) × new more
+-- what was taken grew by the whole piece, and by a prefix of it where the call failed
+abbrev pub Takes : {T E : Type 0} → List ℕ → Result T E → (old new : Option (List ℕ)) → Type 0
+Takes piece (Ok _) old new = new ≡ append_known old piece
+Takes piece (Err _) old new = AddsPrefix old new piece
+
+-- where the piece and so many bytes more were promised to be put with no failure, the call did not fail, and those more
+-- still are
+abbrev pub KeepsPromise : {T E : Type 0} → List ℕ → Result T E → (old new : SinkView) → Type 0
+KeepsPromise piece result old new =
+    (more : ℕ) → IsTrue (old.puts_promised (length piece + more)) → IsOk result × IsTrue (new.puts_promised more)
+
+-- a put of one piece, or of the pieces of one text: what was taken, the count of failures, and what is promised
+pub record Puts {T E : Type 0} (piece : List ℕ) (result : Result T E) (old new : SinkView) : Type 0 where
+  pub taken : Takes piece result old.taken new.taken
+  pub counted : CountsFailure (is_err result) old.faults new.faults
+  pub promised : KeepsPromise piece result old new

@@ -1,18 +1,18 @@
 ghost use Rattle.std.specs.Prelude.{◌≡◌};
-ghost use Rattle.shelf_io.specs.Calls.{fitting, is_told};
+ghost use Rattle.shelf_io.specs.Calls.{fitting, is_scheduled};
 
 // Whether the next call after so many calls is one of those that fail.
-pub(crate) fn is_told(failing: &[u64], calls: u64) -> bool
-    ensures { result ≡ is_told failing.now calls }
+pub(crate) fn is_scheduled(failing: &[u64], calls: u64) -> bool
+    ensures { result ≡ is_scheduled failing.now calls }
 {
     let next = u128::from(calls) + 1;
     failing.iter().any(|number| u128::from(*number) == next)
 }
 
 // How many bytes of a piece of this size a call takes.
-pub(crate) fn fitting(told: bool, room: usize, size: usize) -> usize
-    ensures { result ≡ fitting told room size }
+pub(crate) fn fitting(scheduled: bool, room: usize, size: usize) -> usize
+    ensures { result ≡ fitting scheduled room size }
 {
-    let most = if told { size / 2 } else { size };
+    let most = if scheduled { size / 2 } else { size };
     room.min(most)
 }

@@ -1,5 +1,5 @@
-//! Files and output behind two traits, with shelves and sinks in memory and over the real system, and
-//! the reading of a whole file within a limit.
+//! Files and output after two traits, with shelves and sinks in memory and over the real system,
+//! and the reading of a whole file within a limit.
 #![tactic(auto)]
 
 mod calls;
@@ -7,6 +7,7 @@ mod failed;
 mod faults;
 mod mem_shelf;
 mod mem_sink;
+mod open_file;
 mod place;
 mod real_shelf;
 mod real_sink;

@@ -1,7 +1,7 @@
 ghost use Rattle.std.specs.Prelude.{◌≡◌, ◌≤◌, ◌<◌, ℕ, vec_len, IfOk, OnOk, OnErr, IfSome, length, option_map};
 ghost use Rattle.shelf_io.specs.Contents.{put_bytes};
 ghost use Rattle.shelf_io.specs.Held.{PlacesHaveRoom, place_of};
-ghost use Rattle.shelf_io.specs.MemShelf.{failing_shelf, fresh_shelf, shelf_contents, shelf_with, short_reads};
+ghost use Rattle.shelf_io.specs.MemShelf.{failing_shelf, fresh_shelf, shelf_contents, shelf_handed, shelf_with, short_reads};
 
 use crate::place::Place;
 use crate::stored::Stored;
@@ -14,9 +14,9 @@ mod writing;
 
 /// A shelf that keeps its files in memory.
 ///
-/// The room for the bytes that can be appended, over all files, and the places for new names are taken when
-/// it is made, and no call gives them back. Calls of `read_at`, `create` and `append` are numbered together
-/// from 1, those that fail included.
+/// The room for the bytes that can be appended, over all files, and the places for new names are
+/// taken when it is made, and no call gives them back. Calls of `read_at`, `create` and `append`
+/// are numbered together from 1, those that fail included.
 #[derive(Debug, Drop)]
 pub struct MemShelf {
     alloc: Global,
@@ -68,8 +68,8 @@ fn place_of(files: &[Stored], name: &str) -> Option<usize>
 }
 
 impl MemShelf {
-    /// A shelf with no file, room for so many appended bytes over all files, and places for so many new
-    /// names of up to 255 bytes.
+    /// A shelf with no file, room for so many appended bytes over all files, and places for so many
+    /// new names of up to 255 bytes.
     pub fn empty(alloc: Global, room: usize, places: usize) -> Result<MemShelf, AllocError>
         ensures { IfOk result (λ shelf. shelf ≡ fresh_shelf room places) }
     {
@@ -86,8 +86,8 @@ impl MemShelf {
         })
     }
 
-    /// Puts these bytes under the name. This is no call and takes no room and no place, and a name that was
-    /// held keeps its counts. Where memory is refused, the shelf is as before.
+    /// Puts these bytes under the name. This is no call and takes no room and no place, and a name
+    /// that was held keeps its counts. Where memory runs out, the shelf is as before.
     pub fn put_file(&mut self, name: &str, bytes: &[u8]) -> Result<(), AllocError>
         ensures ok { OnOk result (self.new ≡ shelf_with name.now bytes.now self.old) }
         ensures contents { OnOk result
@@ -115,7 +115,7 @@ impl MemShelf {
         }
     }
 
-    /// Lets the call of this number fail. Where memory is refused, the shelf is as before.
+    /// Lets the call of this number fail. Where memory runs out, the shelf is as before.
     pub fn fail_at(&mut self, call: u64) -> Result<(), AllocError>
         ensures ok { OnOk result (self.new ≡ failing_shelf call self.old) }
         ensures err { OnErr result (self.new ≡ self.old) }
@@ -130,6 +130,17 @@ impl MemShelf {
         ensures { self.new ≡ short_reads most self.old }
     {
         self.most = most;
+    }
+
+    /// How many bytes reads of the name gave so far, 0 where it is not held. The count stays at
+    /// `u64::MAX` once it is there.
+    pub fn handed(&self, name: &str) -> u64
+        ensures { result ≡ shelf_handed self.now name.now }
+    {
+        match place_of(&self.files, name) {
+            Some(at) => self.files[at].handed(),
+            None => 0,
+        }
     }
 
     /// The bytes under the name, `None` where it is not held.

@@ -1,10 +1,8 @@
-ghost use Rattle.std.specs.Prelude.{◌≡◌, ◌≤◌, ℕ, List, Option, Some, IfOk, OnOk, OnErr, is_err};
-ghost use Rattle.std.specs.Io.KnownBytes.{append_known};
-ghost use Rattle.shelf_io.specs.Counts.{Rose};
-ghost use Rattle.shelf_io.specs.MemSink.{PutsWell, failing_sink, fresh_sink, put_after, put_fails};
-ghost use Rattle.shelf_io.specs.Taking.{AddsFront, TakesWell};
+ghost use Rattle.std.specs.Prelude.{◌≡◌, IfOk, OnOk, OnErr, is_err};
+ghost use Rattle.shelf_io.specs.MemSink.{failing_sink, fresh_sink, put_after, put_fails, sink_view};
+ghost use Rattle.shelf_io.specs.Taking.{Puts};
 
-use crate::calls::{fitting, is_told};
+use crate::calls::{fitting, is_scheduled};
 use crate::failed::Failed;
 use crate::sink::Sink;
 use std::alloc::{AllocError, Global};
@@ -12,8 +10,8 @@ use std::marker::Model;
 
 /// A sink that keeps what it takes in memory, with the room for it taken when it is made.
 ///
-/// Calls of `put` are numbered from 1, those that fail included. A call fails where its number was given to
-/// `fail_at`, or where its piece is longer than the room that is left, and nowhere else.
+/// Calls of `put` are numbered from 1, those that fail included. A call fails where its number was
+/// given to `fail_at`, or where its piece is longer than the room that is left, and nowhere else.
 #[derive(Debug, Drop)]
 pub struct MemSink {
     bytes: Vec<u8>,
@@ -55,7 +53,7 @@ impl MemSink {
         })
     }
 
-    /// Lets the call of this number fail. Where memory is refused, the sink is as before.
+    /// Lets the call of this number fail. Where memory runs out, the sink is as before.
     pub fn fail_at(&mut self, call: u64) -> Result<(), AllocError>
         ensures ok { OnOk result (self.new ≡ failing_sink call self.old) }
         ensures err { OnErr result (self.new ≡ self.old) }
@@ -73,11 +71,7 @@ impl MemSink {
 }
 
 impl Sink for MemSink {
-    ghost taken = { λ s. Some s.taken };
-
-    ghost fault_count = { λ s. s.faults };
-
-    ghost puts_well = { PutsWell };
+    ghost view = { sink_view };
 
     fn faults(&self) -> u64 {
         self.faults
@@ -86,21 +80,11 @@ impl Sink for MemSink {
     fn put(&mut self, piece: &[u8]) -> Result<(), Failed>
         ensures exact { is_err result ≡ put_fails self.old piece.now }
         ensures after { self.new ≡ put_after self.old piece.now }
-
-        ensures ok { OnOk result
-            (Some self.new.taken ≡ append_known (Some self.old.taken) piece.now) }
-        ensures err { OnErr result
-            (AddsFront (Some self.old.taken) (Some self.new.taken) piece.now) }
-
-        ensures grows { self.old.faults ≤ self.new.faults }
-        ensures failed { OnErr result (Rose self.old.faults self.new.faults) }
-
-        ensures works { TakesWell (PutsWell self.old) (PutsWell self.new)
-            self.old.faults self.new.faults piece.now result }
+        ensures puts { Puts piece.now result (sink_view self.old) (sink_view self.new) }
     {
-        let told = is_told(&self.failing, self.calls);
-        let refused = told || self.room < piece.len();
-        let size = fitting(told, self.room, piece.len());
+        let scheduled = is_scheduled(&self.failing, self.calls);
+        let refused = scheduled || self.room < piece.len();
+        let size = fitting(scheduled, self.room, piece.len());
         self.calls = self.calls.saturating_add(1);
         self.bytes.extend_from_slice(&piece[..size]).unwrap();
         self.room -= size;

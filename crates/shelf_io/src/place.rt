@@ -48,6 +48,7 @@ impl Place {
           reserved = room;
           reads = reads;
           writes = writes;
+          handed = 0;
         } }
     {
         self.name.push_str(name).unwrap();

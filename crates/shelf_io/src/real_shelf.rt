@@ -1,21 +1,28 @@
-ghost use Rattle.std.specs.Prelude.{◌≡◌, ◌≤◌, ℕ, List, None, length, IfOk};
+ghost use Rattle.std.specs.Prelude.{◌≡◌, ◌≤◌, length, IfOk};
+ghost use Rattle.shelf_io.specs.View.{unknown_shelf};
 
 use crate::failed::Failed;
 use crate::faults::noted;
+use crate::open_file::OpenFile;
 use crate::shelf::Shelf;
-use std::fs::{File, OpenOptions};
-use std::io::Write;
-use std::os::unix::fs::FileExt;
+use std::fs::File;
+use std::io;
 use std::rt::Files;
-use std::{fs, io};
 
-/// The files of the system, by their paths. It tells no contents.
+/// The files of the system, by their paths. It makes no contents known.
 ///
-/// It has one count of failed reads and one of failed writes, the same for every name, and each error of the
-/// system is a failure. A file is opened anew for each call, so a folder cannot be read.
+/// It has one count of failed reads and one of failed writes, the same for every name, and each
+/// error of the system is a failure, but an interrupted read or write is tried again.
+///
+/// The file that is read stays open, and a read of the same name at the offset where the last one
+/// ended goes on in it: so a file that another program replaces meanwhile is read whole, the old
+/// one or the new one, and a pipe can be read. A read at offset 0 opens the name anew. The file
+/// that is created or appended to stays open, too.
 #[derive(Drop)]
 pub struct RealShelf<R> {
     rt: R,
+    reading: Option<OpenFile>,
+    writing: Option<OpenFile>,
     read_faults: u64,
     write_faults: u64,
 }
@@ -23,50 +30,73 @@ pub struct RealShelf<R> {
 impl<R: Files<File = File> + Drop> RealShelf<R> {
     /// The shelf over this runtime, with no failure yet.
     pub fn new(rt: R) -> RealShelf<R>
-        ensures reads { (n : List ℕ) → ⟦<RealShelf<R> as Shelf>⟧.read_count result n ≡ 0 }
-        ensures writes { (n : List ℕ) → ⟦<RealShelf<R> as Shelf>⟧.write_count result n ≡ 0 }
+        ensures { ⟦<RealShelf<R> as Shelf>⟧.view result ≡ unknown_shelf 0 0 }
     {
         RealShelf {
             rt,
+            reading: None,
+            writing: None,
             read_faults: 0,
             write_faults: 0,
         }
     }
 }
 
-fn read<R: Files<File = File>>(rt: &R, name: &str, place: u64, into: &mut [u8]) -> io::Result<usize>
+// Reads from the offset on, in the open file where it goes on there.
+fn read<R: Files<File = File>>(
+    rt: &R,
+    reading: &mut Option<OpenFile>,
+    name: &str,
+    offset: u64,
+    into: &mut [u8],
+) -> io::Result<usize>
     ensures { IfOk result (λ count. count ≤ length into.new) }
 {
-    fs::open(rt, name)?.read_at(into, place)
+    let mut file = match reading.take() {
+        Some(file) if 0 < offset && file.offset() == offset && file.is_called(name) => file,
+        _ => OpenFile::to_read(rt, name, offset)?,
+    };
+    let count = file.read(into)?;
+    *reading = Some(file);
+    Ok(count)
 }
 
-fn clear<R: Files<File = File>>(rt: &R, name: &str) -> io::Result<()> {
-    fs::create(rt, name)?;
+fn create<R: Files<File = File>>(
+    rt: &R,
+    writing: &mut Option<OpenFile>,
+    name: &str,
+) -> io::Result<()> {
+    *writing = None;
+    *writing = Some(OpenFile::to_fill(rt, name)?);
     Ok(())
 }
 
-fn append<R: Files<File = File>>(rt: &R, name: &str, piece: &[u8]) -> io::Result<()> {
-    let mut file = OpenOptions::new().append(true).open(rt, name)?;
-    file.write_all(piece)
+// Writes at the end of the file, in the open one where it has this name.
+fn append<R: Files<File = File>>(
+    rt: &R,
+    writing: &mut Option<OpenFile>,
+    name: &str,
+    piece: &[u8],
+) -> io::Result<()> {
+    let mut file = match writing.take() {
+        Some(file) if file.is_called(name) => file,
+        _ => OpenFile::to_append(rt, name)?,
+    };
+    file.write(piece)?;
+    *writing = Some(file);
+    Ok(())
 }
 
 impl<R: Files<File = File> + Drop> Shelf for RealShelf<R> {
-    ghost contents = { λ _. None };
-
-    ghost read_count = { λ s _. s.read_faults };
-
-    ghost write_count = { λ s _. s.write_faults };
-
-    ghost reads_well = { λ _ _. ⊥ };
-
-    ghost writes_well = { λ _ _ _. ⊥ };
+    ghost view = { λ s. unknown_shelf s.read_faults s.write_faults };
 
     fn read_faults(&self, _name: &str) -> u64 {
         self.read_faults
     }
 
-    fn read_at(&mut self, name: &str, place: u64, into: &mut [u8]) -> Result<usize, Failed> {
-        noted(read(&self.rt, name, place, into), &mut self.read_faults)
+    fn read_at(&mut self, name: &str, offset: u64, into: &mut [u8]) -> Result<usize, Failed> {
+        let done = read(&self.rt, &mut self.reading, name, offset, into);
+        noted(done, &mut self.read_faults)
     }
 
     fn write_faults(&self, _name: &str) -> u64 {
@@ -74,10 +104,12 @@ impl<R: Files<File = File> + Drop> Shelf for RealShelf<R> {
     }
 
     fn create(&mut self, name: &str) -> Result<(), Failed> {
-        noted(clear(&self.rt, name), &mut self.write_faults)
+        let done = create(&self.rt, &mut self.writing, name);
+        noted(done, &mut self.write_faults)
     }
 
     fn append(&mut self, name: &str, piece: &[u8]) -> Result<(), Failed> {
-        noted(append(&self.rt, name, piece), &mut self.write_faults)
+        let done = append(&self.rt, &mut self.writing, name, piece);
+        noted(done, &mut self.write_faults)
     }
 }

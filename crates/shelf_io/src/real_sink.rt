@@ -1,4 +1,7 @@
-ghost use Rattle.std.specs.Prelude.{◌≡◌, None};
+ghost use Rattle.std.specs.Prelude.{◌≡◌, None, OnOk, false};
+ghost use Rattle.std.specs.Io.KnownBytes.{Appends};
+ghost use Rattle.shelf_io.specs.Taking.{Puts};
+ghost use Rattle.shelf_io.specs.View.{unknown_sink};
 
 use crate::failed::Failed;
 use crate::faults::noted;
@@ -6,41 +9,46 @@ use crate::sink::Sink;
 use std::io;
 use std::io::Write;
 
-/// A sink that hands each piece on to a writer, as standard output. It does not tell what it took.
+/// A sink that hands each piece on to a writer, as standard output.
 ///
-/// Each error of the writer is a failure.
+/// Each error of the writer is a failure. As a sink it makes no bytes known; what is known of the
+/// bytes that its writer holds is a clause of its own.
 #[derive(Drop)]
 pub struct RealSink<W> {
-    out: W,
+    writer: W,
     faults: u64,
 }
 
 impl<W: Write + Drop> RealSink<W> {
     /// The sink over this writer, with no failure yet.
-    pub fn new(out: W) -> RealSink<W>
-        ensures { ⟦<RealSink<W> as Sink>⟧.fault_count result ≡ 0 }
+    pub fn new(writer: W) -> RealSink<W>
+        ensures writer { result.writer ≡ writer }
+        ensures faults { result.faults ≡ 0 }
     {
-        RealSink { out, faults: 0 }
+        RealSink { writer, faults: 0 }
     }
 }
 
-fn write<W: Write>(out: &mut W, piece: &[u8]) -> io::Result<()> {
+fn write<W: Write>(out: &mut W, piece: &[u8]) -> io::Result<()>
+    ensures { OnOk result (Appends (W.contents out.old) (W.contents out.new) piece.now) }
+{
     out.write_all(piece)?;
     out.flush()
 }
 
 impl<W: Write + Drop> Sink for RealSink<W> {
-    ghost taken = { λ _. None };
-
-    ghost fault_count = { λ s. s.faults };
-
-    ghost puts_well = { λ _ _. ⊥ };
+    ghost view = { λ s. unknown_sink s.faults };
 
     fn faults(&self) -> u64 {
         self.faults
     }
 
-    fn put(&mut self, piece: &[u8]) -> Result<(), Failed> {
-        noted(write(&mut self.out, piece), &mut self.faults)
+    fn put(&mut self, piece: &[u8]) -> Result<(), Failed>
+        ensures puts { Puts piece.now result
+            (unknown_sink self.old.faults) (unknown_sink self.new.faults) }
+        ensures written { OnOk result
+            (Appends (W.contents self.old.writer) (W.contents self.new.writer) piece.now) }
+    {
+        noted(write(&mut self.writer, piece), &mut self.faults)
     }
 }

@@ -3,12 +3,13 @@ ghost use Rattle.std.specs.Str.{bytes_eq};
 ghost use Rattle.std.specs.String.{string_bytes};
 ghost use Rattle.std.specs.Vec.{vec_capacity};
 ghost use Rattle.shelf_io.specs.Calls.{one_more};
-ghost use Rattle.shelf_io.specs.Held.{with_bytes, with_failed_read, with_failed_write, with_piece, without_bytes};
+ghost use Rattle.shelf_io.specs.Held.{with_bytes, with_failed_read, with_failed_write, with_handed, with_piece, without_bytes};
 
 use std::alloc::{AllocError, Global};
 use std::marker::Model;
 
-// A file of a shelf in memory, with its counts of failures. The memory that it may grow into is taken in advance.
+// A file of a shelf in memory, with its counts of failures and of the bytes that reads gave. The
+// memory that it may grow into is taken in advance.
 #[derive(Debug, Drop)]
 pub(crate) struct Stored {
     name: String,
@@ -16,6 +17,7 @@ pub(crate) struct Stored {
     reserved: usize,
     reads: u64,
     writes: u64,
+    handed: u64,
 }
 
 impl Model for Stored {
@@ -32,6 +34,7 @@ impl Model for Stored {
       reserved = f.reserved;
       reads = f.reads;
       writes = f.writes;
+      handed = f.handed;
     } };
 
     ghost invariant = { λ f. (vec_len f.bytes ≤ f.reserved) × (f.reserved ≤ vec_capacity f.bytes) };
@@ -53,6 +56,7 @@ impl Stored {
           reserved = length bytes.now + room;
           reads = reads;
           writes = writes;
+          handed = 0;
         }) }
     {
         let name = String::from_str(alloc, name)?;
@@ -77,6 +81,7 @@ impl Stored {
           reserved = reserved;
           reads = reads;
           writes = writes;
+          handed = 0;
         } }
     {
         Stored {
@@ -85,6 +90,7 @@ impl Stored {
             reserved,
             reads,
             writes,
+            handed: 0,
         }
     }
 
@@ -100,7 +106,8 @@ impl Stored {
         self.bytes.as_slice()
     }
 
-    // Puts other bytes into the file, with room for `room` more. Where memory is refused, it is as before.
+    // Puts other bytes into the file, with room for `room` more. Where memory runs out, it is as
+    // before.
     pub(crate) fn put(&mut self, alloc: Global, bytes: &[u8], room: usize) -> Result<(), AllocError>
         ensures ok { OnOk result (self.new ≡ with_bytes bytes.now room self.old) }
         ensures err { OnErr result (self.new ≡ self.old) }
@@ -125,10 +132,23 @@ impl Stored {
         self.writes
     }
 
+    pub(crate) fn handed(&self) -> u64
+        ensures { result ≡ self.now.handed }
+    {
+        self.handed
+    }
+
     pub(crate) fn fail_read(&mut self)
         ensures { self.new ≡ with_failed_read self.old }
     {
         self.reads = self.reads.saturating_add(1);
+    }
+
+    // Counts bytes that a read gave.
+    pub(crate) fn hand_out(&mut self, count: usize)
+        ensures { self.new ≡ with_handed count self.old }
+    {
+        self.handed = self.handed.saturating_add(count as u64);
     }
 
     pub(crate) fn fail_write(&mut self)
@@ -144,7 +164,7 @@ impl Stored {
         self.bytes.clear();
     }
 
-    // Puts the piece behind the bytes, and counts a failed write where the call fails.
+    // Appends the piece to the bytes, and counts a failed write where the call fails.
     pub(crate) fn append(&mut self, piece: &[u8], fails: bool)
         requires { length self.old.bytes + length piece.now ≤ self.old.reserved }
         ensures { self.new ≡ with_piece fails piece.now self.old }

@@ -1,6 +1,8 @@
 use crate::{Failed, MemShelf, MemSink, RealShelf, RealSink, Shelf, Sink, TakeFault, take_file};
-use std::fs;
+use std::io::Write;
+use std::os::fd::AsRawFd;
 use std::test::Fail;
+use std::{fs, io, mem};
 
 // What `take_file` answers, as a word.
 fn word(answer: &Result<Vec<u8>, TakeFault>) -> &'static str {
@@ -32,6 +34,9 @@ fn takes_whole_files(rt: HostRuntime) -> Result<(), Fail> {
     assert_eq!(rt; bytes.as_slice(), b"a,b\nc".as_slice());
     assert_eq!(rt; shelf.read_faults("lost"), 1);
     assert_eq!(rt; shelf.read_faults("five"), 0);
+    // 5 whole, 5 whole, 5 past a limit of 4, 1 past a limit of 0, 5 whole
+    assert_eq!(rt; shelf.handed("five"), 21);
+    assert_eq!(rt; shelf.handed("lost"), 0);
     Ok(())
 }
 
@@ -100,27 +105,72 @@ fn writes_in_memory(rt: HostRuntime) -> Result<(), Fail> {
 
 #[test]
 fn reaches_the_system(rt: HostRuntime) -> Result<(), Fail> {
-    fs::write(&rt, "old.csv", "nm,p50\n")?;
+    fs::write(&rt, "test-old.tmp", "nm,p50\n")?;
     let mut shelf = RealShelf::new(rt.clone()?);
-    let bytes = take_file(rt.alloc(), &mut shelf, "old.csv", 7)?;
+    let bytes = take_file(rt.alloc(), &mut shelf, "test-old.tmp", 7)?;
     assert_eq!(rt; bytes.as_slice(), b"nm,p50\n".as_slice());
+    let long = take_file(rt.alloc(), &mut shelf, "test-old.tmp", 6);
+    assert_eq!(rt; word(&long), "too long");
+    let lost = take_file(rt.alloc(), &mut shelf, "test-lost.tmp", 6);
+    assert_eq!(rt; word(&lost), "fault");
+    assert_eq!(rt; shelf.create("test-new.tmp"), Ok(()));
+    assert_eq!(rt; shelf.append("test-new.tmp", b"ab"), Ok(()));
+    assert_eq!(rt; shelf.append("test-old.tmp", b"400"), Ok(()));
+    assert_eq!(rt; shelf.append("test-new.tmp", b"cd"), Ok(()));
+    assert_eq!(rt; shelf.append("test-none/new.tmp", b"cd"), Err(Failed));
+    assert_eq!(rt; faults(&shelf, "test-old.tmp"), (1, 1));
+    assert_eq!(rt; fs::read_to_string(&rt, "test-new.tmp")?.as_str(), "abcd");
     assert_eq!(rt;
-        word(&take_file(rt.alloc(), &mut shelf, "old.csv", 6)),
-        "too long"
+        fs::read_to_string(&rt, "test-old.tmp")?.as_str(),
+        "nm,p50\n400"
     );
-    assert_eq!(rt;
-        word(&take_file(rt.alloc(), &mut shelf, "lost.csv", 6)),
-        "fault"
-    );
-    assert_eq!(rt; shelf.create("new.cert"), Ok(()));
-    assert_eq!(rt; shelf.append("new.cert", b"ab"), Ok(()));
-    assert_eq!(rt; shelf.append("new.cert", b"cd"), Ok(()));
-    assert_eq!(rt; shelf.append("none/new.cert", b"cd"), Err(Failed));
-    assert_eq!(rt; faults(&shelf, "old.csv"), (1, 1));
-    assert_eq!(rt; fs::read_to_string(&rt, "new.cert")?.as_str(), "abcd");
-    let mut sink = RealSink::new(fs::create(&rt, "out.txt")?);
-    assert_eq!(rt; sink.put(b"abc"), Ok(()));
-    assert_eq!(rt; sink.faults(), 0);
-    assert_eq!(rt; fs::read_to_string(&rt, "out.txt")?.as_str(), "abc");
+    Ok(())
+}
+
+#[test]
+fn writes_through(rt: HostRuntime) -> Result<(), Fail> {
+    let mut bytes = Vec::new(rt.alloc());
+    {
+        let mut sink = RealSink::new(&mut bytes);
+        assert_eq!(rt; sink.put(b"abc"), Ok(()));
+        assert_eq!(rt; sink.put(b""), Ok(()));
+        assert_eq!(rt; sink.put(b"d"), Ok(()));
+        assert_eq!(rt; sink.faults(), 0);
+    }
+    assert_eq!(rt; bytes.as_slice(), b"abcd".as_slice());
+    Ok(())
+}
+
+#[test]
+fn reads_a_replaced_file_whole(rt: HostRuntime) -> Result<(), Fail> {
+    fs::write(&rt, "test-replaced.tmp", "oldold")?;
+    fs::write(&rt, "test-other.tmp", "newnew!")?;
+    let mut buffer = [0; 3];
+    let mut shelf = RealShelf::new(rt.clone()?);
+    let name = "test-replaced.tmp";
+    assert_eq!(rt; shelf.read_at(name, 0, &mut buffer), Ok(3));
+    fs::rename(&rt, "test-other.tmp", name)?;
+    assert_eq!(rt; shelf.read_at(name, 3, &mut buffer), Ok(3));
+    assert_eq!(rt; buffer.as_slice(), b"old".as_slice());
+    assert_eq!(rt; shelf.read_at(name, 6, &mut buffer), Ok(0));
+    let bytes = take_file(rt.alloc(), &mut shelf, name, 7)?;
+    assert_eq!(rt; bytes.as_slice(), b"newnew!".as_slice());
+    // another offset than that where the open file stands
+    assert_eq!(rt; shelf.read_at(name, 4, &mut buffer), Ok(3));
+    assert_eq!(rt; buffer.as_slice(), b"ew!".as_slice());
+    Ok(())
+}
+
+#[test]
+fn reads_a_pipe(rt: HostRuntime) -> Result<(), Fail> {
+    let sent = vec![in rt.alloc(); b'x'; 10_000]?;
+    let (reader, mut writer) = io::pipe(&rt)?;
+    writer.write_all(sent.as_slice())?;
+    mem::drop(writer);
+    let fd = reader.as_raw_fd();
+    let name = format!(in rt.alloc(); "/proc/self/fd/{fd}")?;
+    let mut shelf = RealShelf::new(rt.clone()?);
+    let came = take_file(rt.alloc(), &mut shelf, name.as_str(), 10_000)?;
+    assert_eq!(rt; came.as_slice(), sent.as_slice());
     Ok(())
 }

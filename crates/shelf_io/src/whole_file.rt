@@ -1,5 +1,7 @@
-ghost use Rattle.std.specs.Prelude.{◌≡◌, ◌≢◌, ◌<◌, ◌≤◌, ℕ, List, length, Some, IfOk, IfSome, IsErrOf, IsSomeAnd, vec_len};
-ghost use Rattle.shelf_io.specs.Counts.{CountsOf, KeepsWell, Rose};
+ghost use Rattle.std.specs.Prelude.{◌≡◌, ◌≢◌, ◌<◌, ◌≤◌, ◌+◌, ℕ, List, length, Some, IfOk, IfSome, IsErrOf, IsSomeAnd, IsTrue, vec_len};
+ghost use Rattle.shelf_io.specs.Changes.{HandsOut, OnlyReads};
+ghost use Rattle.shelf_io.specs.Counts.{CountsFailure};
+ghost use Rattle.shelf_io.specs.Whole.{is_fault};
 
 use crate::shelf::Shelf;
 use std::alloc::{AllocError, Global};
@@ -17,40 +19,33 @@ pub enum TakeFault {
     /// More bytes came than the limit allows.
     #[error("the file is too long")]
     TooLong,
-    /// Memory was refused.
+    /// Memory ran out.
     #[error("out of memory")]
     Memory,
 }
 
 /// Reads the file under `name` whole, if it has at most `limit` bytes.
 ///
-/// It reads at most `limit + 1` bytes. `Fault` comes where a read failed, `TooLong` where more than `limit`
-/// bytes came, and `Memory` where memory was refused.
+/// `Fault` comes where a read failed, `TooLong` where more than `limit` bytes came, and `Memory`
+/// where memory ran out.
 pub fn take_file<H: Shelf>(
     alloc: Global,
     shelf: &mut H,
     name: &str,
     limit: u64,
 ) -> Result<Vec<u8>, TakeFault>
-    ensures same { H.contents shelf.new ≡ H.contents shelf.old }
-    ensures whole { IfOk result (λ bytes. IfSome (H.contents shelf.old)
+    ensures whole { IfOk result (λ bytes. IfSome (H.view shelf.old).contents
         (λ c. c.file name.now ≡ Some bytes.items)) }
     ensures within { IfOk result (λ bytes. vec_len bytes ≤ limit) }
-    ensures too_long { IsErrOf result TakeFault.TooLong → IfSome (H.contents shelf.old)
+    ensures too_long { IsErrOf result TakeFault.TooLong → IfSome (H.view shelf.old).contents
         (λ c. IsSomeAnd (c.file name.now) (λ bytes. limit < length bytes)) }
 
-    ensures fault { IsErrOf result TakeFault.Fault →
-        Rose (H.read_count shelf.old name.now) (H.read_count shelf.new name.now) }
-    ensures counts { CountsOf (H.contents shelf.old) name.now
-        (H.read_count shelf.old) (H.read_count shelf.new) }
-    ensures other_kind { (n : List ℕ) → H.write_count shelf.new n ≡ H.write_count shelf.old n }
-
-    ensures works { H.reads_well shelf.old name.now → result ≢ Err TakeFault.Fault }
-    ensures keeps_reading { KeepsWell (H.reads_well shelf.old) (H.reads_well shelf.new)
-        (H.read_count shelf.old) (H.read_count shelf.new) }
-    ensures keeps_writing { (bytes : ℕ) → KeepsWell
-        (λ n. H.writes_well shelf.old n bytes) (λ n. H.writes_well shelf.new n bytes)
-        (H.write_count shelf.old) (H.write_count shelf.new) }
+    ensures only { OnlyReads (λ n. n ≡ name.now) (H.view shelf.old) (H.view shelf.new) }
+    ensures handed { HandsOut name.now (limit + 1) (H.view shelf.old) (H.view shelf.new) }
+    ensures counted { CountsFailure (is_fault result)
+        ((H.view shelf.old).read_faults name.now) ((H.view shelf.new).read_faults name.now) }
+    ensures promised { IsTrue ((H.view shelf.old).reads_promised name.now) →
+        result ≢ Err TakeFault.Fault }
 {
     let mut bytes = Vec::new(alloc);
     let mut buffer = [0; READ_SIZE];

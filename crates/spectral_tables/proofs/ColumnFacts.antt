@@ -10,10 +10,10 @@ use Rattle.std.proofs.lemmas.Map.Entries.{length-keys_of}
 use Rattle.std.proofs.Math.Seq.{drop-cons}
 use Rattle.indexmap.specs.IndexMap.{insert_entry}
 use Rattle.spectral_tables.specs.Curve.{IsCurve}
-use Rattle.spectral_tables.specs.CurveBook.{Book, IsBook, book_of, place_count}
+use Rattle.spectral_tables.specs.CurveBook.{Book, IsBook, book_of, wave_count}
 use Rattle.spectral_tables.specs.CurveFile.{column_of, curves_under}
 use Rattle.spectral_tables.specs.Rows.{IsRow}
-use Rattle.spectral_tables.proofs.NameFacts.{apart}
+use Rattle.spectral_tables.proofs.NameFacts.{differs_from_earlier}
 
 -- what a row of the list keeps
 pub row-at : (columns : ℕ) (rows : List (Vec ℕ)) → All (IsRow columns) (map (λ row. row.items) rows) → (k : ℕ) (d : Vec ℕ) → k < length rows → IsRow columns (get_or rows k d).items
@@ -52,7 +52,7 @@ holds-more rows names i book name lt here curve h =
 pub holds-all : (rows names : List (List ℕ)) (i : ℕ) (book : Book) → length names ≤ i → Holds rows names i book → book ≡ curves_under [] rows names
 holds-all rows names i book le h = ap (curves_under book rows) (sym (drop_all i names le)) ∙ h.so_far
 
-same_count : (n : ℕ) (book : Book) → All (λ e. length e.1 ≡ n) book → All (λ e. length e.1 ≡ place_count book) book
+same_count : (n : ℕ) (book : Book) → All (λ e. length e.1 ≡ n) book → All (λ e. length e.1 ≡ wave_count book) book
 same_count n [] h = λ k d lt. absurd (omega arith)
 same_count n (e ∷ es) h = λ k d lt. h k d lt ∙ sym (h 0 e (omega arith))
 
@@ -80,5 +80,5 @@ insert-last (e ∷ es) name curve h = by (bytes_eq name.items e.0.items) h (inse
 pub holds-inserted : (rows names : List (List ℕ)) (i : ℕ) (entries new : List (Vec ℕ × List ℕ)) (name : Vec ℕ) → i < length names → get_or names i [] ≡ name.items → IsDistinct bytes_eq names
     → IsCurve (column_of i rows) → new ≡ insert_entry (λ x y. bytes_eq x.items y.items) entries name (column_of i rows) → Holds rows names i (book_of entries) → Holds rows names (i + 1) (book_of new)
 holds-inserted rows names i entries new name lt here distinct curve is h =
-    let differs : list_any (bytes_eq name.items) (keys_of (book_of entries)) ≡ false = rw (h.names_are, ← here) (apart names i [] lt distinct) in
+    let differs : list_any (bytes_eq name.items) (keys_of (book_of entries)) ≡ false = rw (h.names_are, ← here) (differs_from_earlier names i [] lt distinct) in
     subst (Holds rows names (i + 1)) (sym (ap book_of is ∙ insert-last entries name (column_of i rows) differs)) (holds-more rows names i (book_of entries) name.items lt here curve h)

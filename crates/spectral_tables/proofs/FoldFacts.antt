@@ -1,4 +1,4 @@
--- Folded weights have a place each, and no column's sizes add up to more than before.
+-- Folded weights have one triple a wavelength, and no column's magnitudes add up to more than before.
 use Rattle.std.proofs.Common.{◌≡◌, ◌+◌, ◌*◌, ◌≤◌, ◌<◌, ℕ, zero, suc, ℤ, pos, negsuc, ◌+ℤ◌, Bool, true, false, Ok, List, [], ◌∷◌, ◌++◌, length, take, drop, All, refl, sym, ap, ◌∙◌, leb-true, arith}
 use Rattle.std.specs.Prelude.{unsigned_abs, sum_by, IsTrue}
 use Rattle.std.proofs.lemmas.Int.{ints}
@@ -8,24 +8,24 @@ use Rattle.std.proofs.lemmas.List.Sums.{sum_by-append, sum_by-cons}
 use Rattle.spectral_tables.specs.declared.fault.TableRule.{TableRule}
 use Rattle.spectral_tables.specs.declared.fault.TableRule.TheVariants.{Unbalanced}
 use Rattle.spectral_tables.specs.Faults.{ensure}
-use Rattle.spectral_tables.specs.Weighing.{Triple, Weighing, IsTriple, IsBalanced, IsWeighing, at_column, column_sum, size_sum, total_of}
+use Rattle.spectral_tables.specs.WeightTable.{Triple, WeightTable, IsTriple, IsBalanced, IsWeightTable, at_column, column_sum, magnitude_sum, total_of}
 use Rattle.spectral_tables.specs.Fold.{Covers, fold_of, rows_below}
 use Rattle.spectral_tables.specs.Run.{Rows, IsRun, row_behind, reaches_end, wavelength_behind}
 use Rattle.spectral_tables.specs.WeightFile.{IsWhite, ensure_balance}
 
-size-add : (a b : ℤ) → unsigned_abs (a +ℤ b) ≤ unsigned_abs a + unsigned_abs b
-size-add (pos a) (pos b) = omega (arith, ints)
-size-add (pos a) (negsuc b) = omega (arith, ints)
-size-add (negsuc a) (pos b) = omega (arith, ints)
-size-add (negsuc a) (negsuc b) = omega (arith, ints)
+magnitude-add : (a b : ℤ) → unsigned_abs (a +ℤ b) ≤ unsigned_abs a + unsigned_abs b
+magnitude-add (pos a) (pos b) = omega (arith, ints)
+magnitude-add (pos a) (negsuc b) = omega (arith, ints)
+magnitude-add (negsuc a) (pos b) = omega (arith, ints)
+magnitude-add (negsuc a) (negsuc b) = omega (arith, ints)
 
-size-column_sum : (column : ℕ) (triples : List Triple) → unsigned_abs (column_sum column triples) ≤ size_sum column triples
-unfolding column_sum size_sum
-size-column_sum column [] = omega arith
-size-column_sum column (t ∷ ts) =
-    let sizes : size_sum column (t ∷ ts) ≡ unsigned_abs (at_column column t) + size_sum column ts = sum_by-cons (λ (t : Triple). unsigned_abs (at_column column t)) t ts in
+magnitude-column_sum : (column : ℕ) (triples : List Triple) → unsigned_abs (column_sum column triples) ≤ magnitude_sum column triples
+unfolding column_sum magnitude_sum
+magnitude-column_sum column [] = omega arith
+magnitude-column_sum column (t ∷ ts) =
+    let magnitudes : magnitude_sum column (t ∷ ts) ≡ unsigned_abs (at_column column t) + magnitude_sum column ts = sum_by-cons (λ (t : Triple). unsigned_abs (at_column column t)) t ts in
     let sums : column_sum column (t ∷ ts) ≡ at_column column t +ℤ column_sum column ts = refl in
-    omega (arith, size-add (at_column column t) (column_sum column ts), size-column_sum column ts, sizes, ap unsigned_abs sums)
+    omega (arith, magnitude-add (at_column column t) (column_sum column ts), magnitude-column_sum column ts, magnitudes, ap unsigned_abs sums)
 
 at-total_of : (column : ℕ) (triples : List Triple) → column < 3 → at_column column (total_of triples) ≡ column_sum column triples
 at-total_of zero triples lt = refl
@@ -33,40 +33,40 @@ at-total_of (suc zero) triples lt = refl
 at-total_of (suc (suc zero)) triples lt = refl
 at-total_of (suc (suc (suc c))) triples lt = absurd (omega arith)
 
-size_sum-split : (column n : ℕ) (triples : List Triple) → size_sum column (take n triples) + size_sum column (drop n triples) ≡ size_sum column triples
-unfolding size_sum
-size_sum-split column n triples =
-    let size = λ (t : Triple). unsigned_abs (at_column column t) in
-    sym (sum_by-append size (take n triples) (drop n triples)) ∙ ap (sum_by size) (take-append-drop n triples)
+magnitude_sum-split : (column n : ℕ) (triples : List Triple) → magnitude_sum column (take n triples) + magnitude_sum column (drop n triples) ≡ magnitude_sum column triples
+unfolding magnitude_sum
+magnitude_sum-split column n triples =
+    let magnitude = λ (t : Triple). unsigned_abs (at_column column t) in
+    sym (sum_by-append magnitude (take n triples) (drop n triples)) ∙ ap (sum_by magnitude) (take-append-drop n triples)
 
-size_sum-ends : (column : ℕ) (low high : Triple) (middle : List Triple)
-    → size_sum column (low ∷ (middle ++ high ∷ [])) ≡ unsigned_abs (at_column column low) + size_sum column middle + unsigned_abs (at_column column high)
-unfolding size_sum
-size_sum-ends column low high middle =
-    let size = λ (t : Triple). unsigned_abs (at_column column t) in
-    let front : size_sum column (low ∷ (middle ++ high ∷ [])) ≡ size low + sum_by size (middle ++ high ∷ []) = sum_by-cons size low (middle ++ high ∷ []) in
-    let back : sum_by size (high ∷ []) ≡ size high + sum_by size [] = sum_by-cons size high [] in
-    let none : sum_by size [] ≡ 0 = refl in
-    let inner : size_sum column middle ≡ sum_by size middle = refl in
-    omega (arith, front, back, none, inner, sum_by-append size middle (high ∷ []))
+magnitude_sum-ends : (column : ℕ) (low high : Triple) (middle : List Triple)
+    → magnitude_sum column (low ∷ (middle ++ high ∷ [])) ≡ unsigned_abs (at_column column low) + magnitude_sum column middle + unsigned_abs (at_column column high)
+unfolding magnitude_sum
+magnitude_sum-ends column low high middle =
+    let magnitude = λ (t : Triple). unsigned_abs (at_column column t) in
+    let front : magnitude_sum column (low ∷ (middle ++ high ∷ [])) ≡ magnitude low + sum_by magnitude (middle ++ high ∷ []) = sum_by-cons magnitude low (middle ++ high ∷ []) in
+    let back : sum_by magnitude (high ∷ []) ≡ magnitude high + sum_by magnitude [] = sum_by-cons magnitude high [] in
+    let none : sum_by magnitude [] ≡ 0 = refl in
+    let inner : magnitude_sum column middle ≡ sum_by magnitude middle = refl in
+    omega (arith, front, back, none, inner, sum_by-append magnitude middle (high ∷ []))
 
--- folding makes the sum of the sizes of no column greater
-pub size_sum-fold_of : (column first : ℕ) (triples : List Triple) → column < 3 → size_sum column (fold_of first triples) ≤ size_sum column triples
+-- folding makes the sum of the magnitudes of no column greater
+pub magnitude_sum-fold_of : (column first : ℕ) (triples : List Triple) → column < 3 → magnitude_sum column (fold_of first triples) ≤ magnitude_sum column triples
 unfolding fold_of
-size_sum-fold_of column first triples lt =
+magnitude_sum-fold_of column first triples lt =
     let below = rows_below first in
     let low = take (below + 1) triples in
     let rest = drop (below + 1) triples in
     let middle = take 29 rest in
     let high = drop (below + 30) triples in
-    let places : below + 1 + 29 ≡ below + 30 = omega arith in
-    let last : drop 29 rest ≡ high = drop-drop 29 (below + 1) triples ∙ ap (λ n. drop n triples) places in
-    let ends = size_sum-ends column (total_of low) (total_of high) middle in
+    let counts : below + 1 + 29 ≡ below + 30 = omega arith in
+    let last : drop 29 rest ≡ high = drop-drop 29 (below + 1) triples ∙ ap (λ n. drop n triples) counts in
+    let ends = magnitude_sum-ends column (total_of low) (total_of high) middle in
     let at_low = ap unsigned_abs (at-total_of column low lt) in
     let at_high = ap unsigned_abs (at-total_of column high lt) in
-    let cut = size_sum-split column (below + 1) triples in
-    let cut_again = size_sum-split column 29 rest in
-    omega (arith, ends, at_low, at_high, size-column_sum column low, size-column_sum column high, cut, cut_again, ap (size_sum column) last)
+    let cut = magnitude_sum-split column (below + 1) triples in
+    let cut_again = magnitude_sum-split column 29 rest in
+    omega (arith, ends, at_low, at_high, magnitude-column_sum column low, magnitude-column_sum column high, cut, cut_again, ap (magnitude_sum column) last)
 
 pub length-fold_of : (first : ℕ) (triples : List Triple) → Covers first (length triples) → length (fold_of first triples) ≡ 31
 unfolding fold_of
@@ -78,9 +78,9 @@ length-fold_of first triples covers =
 
 pub triples-fold_of : (first : ℕ) (triples : List Triple) → All IsTriple triples → All (λ t. length t ≡ 3) (fold_of first triples)
 unfolding fold_of
-triples-fold_of first triples sizes =
+triples-fold_of first triples magnitudes =
     let three = λ (t : Triple). length t ≡ 3 in
-    let all = All-weaker IsTriple three (λ t h. h.0) triples sizes in
+    let all = All-weaker IsTriple three (λ t h. h.0) triples magnitudes in
     let rest = All-drop three (rows_below first + 1) triples all in
     let middle = All-take three 29 (drop (rows_below first + 1) triples) rest in
     All-cons three (total_of (take (rows_below first + 1) triples)) (take 29 (drop (rows_below first + 1) triples) ++ total_of (drop (rows_below first + 30) triples) ∷ []) refl
@@ -93,27 +93,27 @@ ensured row column rule false u e = absurd cc
 -- a column that was found balanced, once it is folded
 balanced : (rows : Rows) (white : Triple) (column : ℕ) (u : Unit {0}) → column < 3 → IsWhite white → ensure_balance rows white column ≡ Ok u → IsBalanced (record { weights = fold_of rows.first rows.triples; white = white }) column
 balanced rows white column u lt is_white e =
-    let passed = leb-true (size_sum column rows.triples) (2 * unsigned_abs (at_column column white)) (ensured (row_behind rows) (column + 2) Unbalanced _ u e) in
+    let passed = leb-true (magnitude_sum column rows.triples) (2 * unsigned_abs (at_column column white)) (ensured (row_behind rows) (column + 2) Unbalanced _ u e) in
     let within : column < length white = omega (arith, is_white.0.0) in
     record {
       positive = is_white.1 column (pos 0) within;
       small = is_white.0.1 column (pos 0) within;
-      balanced = omega (arith, passed, size_sum-fold_of column rows.first rows.triples lt);
+      balanced = omega (arith, passed, magnitude_sum-fold_of column rows.first rows.triples lt);
     }
 
-columns_of : (w : Weighing) → IsBalanced w 0 → IsBalanced w 1 → IsBalanced w 2 → (column : ℕ) → column < 3 → IsBalanced w column
+columns_of : (w : WeightTable) → IsBalanced w 0 → IsBalanced w 1 → IsBalanced w 2 → (column : ℕ) → column < 3 → IsBalanced w column
 columns_of w x y z zero lt = x
 columns_of w x y z (suc zero) lt = y
 columns_of w x y z (suc (suc zero)) lt = z
 columns_of w x y z (suc (suc (suc c))) lt = absurd (omega arith)
 
-pub weighing-closed : (rows : Rows) (white : Triple) (u v w : Unit {0}) → IsRun rows → IsTrue (reaches_end rows) → IsWhite white
+pub table-closed : (rows : Rows) (white : Triple) (u v w : Unit {0}) → IsRun rows → IsTrue (reaches_end rows) → IsWhite white
     → ensure_balance rows white 0 ≡ Ok u → ensure_balance rows white 1 ≡ Ok v → ensure_balance rows white 2 ≡ Ok w
-    → IsWeighing (record { weights = fold_of rows.first rows.triples; white = white })
-weighing-closed rows white u v w run end is_white x y z =
+    → IsWeightTable (record { weights = fold_of rows.first rows.triples; white = white })
+table-closed rows white u v w run end is_white x y z =
     record {
       count = length-fold_of rows.first rows.triples (record { tens = run.tens; from = run.from; start = run.start; end = leb-true 710 (wavelength_behind rows) end; within = run.within });
-      triples = triples-fold_of rows.first rows.triples run.sizes;
+      triples = triples-fold_of rows.first rows.triples run.magnitudes;
       white = is_white.0.0;
       columns = columns_of _ (balanced rows white 0 u (omega arith) is_white x) (balanced rows white 1 v (omega arith) is_white y) (balanced rows white 2 w (omega arith) is_white z);
     }

@@ -1,7 +1,8 @@
-pub mod BookFacts
-pub mod ColumnFacts
-pub mod FoldFacts
-pub mod NameFacts
-pub mod RecordFacts
-pub mod SpectrumFacts
-pub mod SumFacts
+mod BookFacts
+mod ColumnFacts
+mod FoldFacts
+mod NameFacts
+mod RecordFacts
+mod SpectrumFacts
+mod SumFacts
+pub mod SpectrumLaws

@@ -28,17 +28,17 @@ pub distinct-names : (items names : List (List ℕ)) → each next_different [] 
 unfolding IsDistinct
 distinct-names items names e = distinct-each [] items names tt e
 
-at_place : (P : List ℕ → Type 0) (xs : List (List ℕ)) (i : ℕ) (d : List ℕ) → i < length xs → AllByRecursion P xs → P (get_or xs i d)
-at_place P [] i d lt h = absurd (omega arith)
-at_place P (x ∷ xs) zero d lt h = h.0
-at_place P (x ∷ xs) (suc i) d lt h = at_place P xs i d (omega arith) h.1
+at_index : (P : List ℕ → Type 0) (xs : List (List ℕ)) (i : ℕ) (d : List ℕ) → i < length xs → AllByRecursion P xs → P (get_or xs i d)
+at_index P [] i d lt h = absurd (omega arith)
+at_index P (x ∷ xs) zero d lt h = h.0
+at_index P (x ∷ xs) (suc i) d lt h = at_index P xs i d (omega arith) h.1
 
 -- a name among distinct ones differs from those before it
-pub apart : (names : List (List ℕ)) (i : ℕ) (d : List ℕ) → i < length names → IsDistinct bytes_eq names → list_any (bytes_eq (get_or names i d)) (take i names) ≡ false
+pub differs_from_earlier : (names : List (List ℕ)) (i : ℕ) (d : List ℕ) → i < length names → IsDistinct bytes_eq names → list_any (bytes_eq (get_or names i d)) (take i names) ≡ false
 unfolding IsDistinct
-apart [] i d lt distinct = absurd (omega arith)
-apart (n ∷ ns) zero d lt distinct = refl
-apart (n ∷ ns) (suc i) d lt distinct =
-    let later : bytes_eq n (get_or ns i d) ≡ false = at_place (λ y. bytes_eq n y ≡ false) ns i d (omega arith) distinct.0 in
+differs_from_earlier [] i d lt distinct = absurd (omega arith)
+differs_from_earlier (n ∷ ns) zero d lt distinct = refl
+differs_from_earlier (n ∷ ns) (suc i) d lt distinct =
+    let later : bytes_eq n (get_or ns i d) ≡ false = at_index (λ y. bytes_eq n y ≡ false) ns i d (omega arith) distinct.0 in
     let first : bytes_eq (get_or ns i d) n ≡ false = nat_list_eq_equiv.symm (get_or ns i d) n ∙ later in
-    rw first (apart ns i d (omega arith) distinct.1)
+    rw first (differs_from_earlier ns i d (omega arith) distinct.1)

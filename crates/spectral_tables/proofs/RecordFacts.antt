@@ -1,14 +1,18 @@
 -- The records that were read in turn are the records of the text, and none has more fields than the text has room for.
-use Rattle.std.proofs.Common.{◌≡◌, ◌+◌, ◌≤◌, ◌<◌, ◌||◌, ◌==◌, ℕ, zero, suc, Bool, true, false, if◌then◌else◌, List, [], ◌∷◌, ◌++◌, length, get_or, take, Some, None, map, refl, sym, ap, subst, ◌∙◌, arith}
+use Rattle.std.proofs.Common.{◌≡◌, ◌+◌, ◌≤◌, ◌<◌, ◌||◌, ◌==◌, ℕ, zero, suc, Bool, true, false, if◌then◌else◌, List, [], ◌∷◌, ◌++◌, length, get_or, take, Option, Some, None, map, refl, sym, ap, subst, ◌∙◌, arith}
 use Rattle.std.proofs.lemmas.List.{length-append, take_all}
 use Rattle.std.proofs.lemmas.Bool.{true≢false}
 use Rattle.csv.specs.Machine.{Read, next_record, step, in_field, start_field, start_record, is_end, ends_at_end, fields_after, field_after}
-use Rattle.csv.specs.Reading.{Reached, default_config, is_bom, records, records_from, strip_bom}
+use Rattle.csv.specs.Reading.{ExplainsRead, Reached, default_config, is_bom, records, records_from, strip_bom}
+use Rattle.csv.specs.declared.error.ErrorKind.{ErrorKind}
+use Rattle.csv.specs.declared.error.ErrorKind.TheVariants.{Deserialize, Io, OutOfMemory, Serialize, UnequalLengths, Utf8}
+use Rattle.csv.specs.declared.reader.Reader.{Reader}
 use Rattle.csv.specs.Records.{field_at}
 use Rattle.csv.specs.declared.parser.Action.{Action}
 use Rattle.csv.specs.declared.parser.Action.TheVariants as act
 use Rattle.csv.specs.declared.parser.State.{State}
 use Rattle.csv.specs.declared.parser.State.TheVariants as st
+use Rattle.spectral_tables.specs.Records.{CanRefuseBytes}
 
 -- the state between two records
 abbrev IsBetween : State → Type 0
@@ -139,3 +143,12 @@ unfolding field_at
 fields-end [] i e = take_all i [] (omega arith)
 fields-end (x ∷ xs) zero e = absurd cc
 fields-end (x ∷ xs) (suc i) e = ap (λ (ys : List (List ℕ)). x ∷ ys) (fields-end xs i e)
+
+-- why a read of a flexible reader over bytes may fail
+pub can_refuse : {R : Type 0} (rem : R → Option (List ℕ)) (old new : Reader R) (why : ErrorKind) → old.flexible ≡ true → ExplainsRead rem old new false why → CanRefuseBytes why
+can_refuse rem old new OutOfMemory flexible h = tt
+can_refuse rem old new (Io e) flexible h = tt
+can_refuse rem old new (UnequalLengths pos expected len) flexible h = true≢false (sym flexible ∙ h.0)
+can_refuse rem old new (Utf8 pos err) flexible h = true≢false (sym h.0)
+can_refuse rem old new (Serialize text) flexible h = h
+can_refuse rem old new (Deserialize pos err) flexible h = h

@@ -1,4 +1,4 @@
--- The places of a spectrum, as they are stored.
+-- The reflectances of a spectrum, as they are stored.
 use Rattle.std.proofs.Common.{◌≡◌, ◌≤◌, ◌<◌, ◌^◌, ℕ, pos, List, length, get_or, map, Some, ap, subst, ◌∙◌, arith}
 use Rattle.std.specs.Prelude.{slice_get, option_map}
 use Rattle.std.proofs.lemmas.Int.{ints}
@@ -10,13 +10,13 @@ use Rattle.interval_specs.specs.Ranges.{UpTo}
 use Rattle.interval_specs.proofs.Ranges.{ratio_up_to}
 use Rattle.spectral_tables.specs.Spectrum.{IsSpectrum, ends_of}
 
--- a place lies within 0 and 1
+-- a reflectance lies within 0 and 1
 pub range-at : (n : ℕ) (stored : List (ℕ × ℕ)) (wave : ℕ) → IsSpectrum n (map ends_of stored) → wave < length (map ends_of stored) → UpTo n (ends_of (get_or stored wave (0, 0)))
 range-at n stored wave kept lt =
     let within : wave < length stored = rw (← length-map stored ends_of) lt in
     subst (UpTo n) (get_or-map ends_of stored wave (0, 0) (ends_of (0, 0)) within) (kept.range wave (ends_of (0, 0)) lt)
 
--- the place that is read is that of the spectrum
+-- the reflectance that is read is that of the spectrum
 pub slice_get-stored : (stored : List (ℕ × ℕ)) (wave : ℕ) → wave < length (map ends_of stored) → slice_get (map ends_of stored) wave ≡ Some (ends_of (get_or stored wave (0, 0)))
 slice_get-stored stored wave lt =
     let within : wave < length stored = rw (← length-map stored ends_of) lt in

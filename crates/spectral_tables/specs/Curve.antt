@@ -5,13 +5,13 @@ use Rattle.std.specs.Prelude.{◌≡◌, ◌≤◌, ℕ, List, All, length, repl
 abbrev pub IsReflectance : ℕ → Type 0
 IsReflectance m = (100 ≤ m) × (m ≤ 1000000)
 
--- how many places there may be: those of 400 to 700 nm by 10
-abbrev pub IsPlaceCount : ℕ → Type 0
-IsPlaceCount n = n ≡ 31
+-- how many wavelengths there may be: those of 400 to 700 nm by 10
+abbrev pub IsWaveCount : ℕ → Type 0
+IsWaveCount n = n ≡ 31
 
 -- what a curve keeps
 pub record IsCurve (reflectances : List ℕ) : Type 0 where
-  pub count : IsPlaceCount (length reflectances)
+  pub count : IsWaveCount (length reflectances)
   pub range : All IsReflectance reflectances
 
 -- the curve of a cloth that reflects all light

@@ -14,16 +14,16 @@ Book = List (List ℕ × List ℕ)
 abbrev pub curve_named : List ℕ → Book → Option (List ℕ)
 curve_named name book = lookup (bytes_eq name) book
 
--- how many places each curve has
-abbrev pub place_count : Book → ℕ
-place_count [] = 0
-place_count (first ∷ _) = length first.1
+-- how many wavelengths each curve has
+abbrev pub wave_count : Book → ℕ
+wave_count [] = 0
+wave_count (first ∷ _) = length first.1
 
 -- what a book keeps
 pub record IsBook (book : Book) : Type 0 where
   pub distinct : IsDistinct bytes_eq (keys_of book)
   pub curves : All (λ e. IsCurve e.1) book
-  pub equal : All (λ e. length e.1 ≡ place_count book) book
+  pub equal : All (λ e. length e.1 ≡ wave_count book) book
 
 -- the book that is kept under owned names
 abbrev pub book_of : List (Vec ℕ × List ℕ) → Book

@@ -30,7 +30,7 @@ names_of fields =
       names ← each next_name [] (drop 1 fields)
       each next_different [] names)
 
--- A percentage with up to four places, as millionths: 0.01 to 100 percent.
+-- A percentage with up to four decimals, as millionths: 0.01 to 100 percent.
 unfoldable pub reflectance_of : ℕ → ℕ → List ℕ → Result ℕ TableFault
 reflectance_of row column field = do
   number ← or_fault row column BadNumber (number_read (decimal_of 4 field))
@@ -41,16 +41,16 @@ next_reflectance row before field = reflectance_of row (length before + 2) field
 
 -- The record of a wavelength: as many fields as the header has, the wavelength that is due, and a percentage in each further field.
 unfoldable pub row_of : ℕ → ℕ → List (List ℕ) → Result (List ℕ) TableFault
-row_of columns place fields =
-    ensure (place + 2) 1 BadWavelength (nat_lt place 31)
-    >> ensure (place + 2) (length fields) WrongCount (length fields == columns)
-    >> ensure (place + 2) 1 BadWavelength (is_wavelength (400 + 10 * place) (first_field fields))
-    >> each (next_reflectance (place + 2)) [] (drop 1 fields)
+row_of columns wave fields =
+    ensure (wave + 2) 1 BadWavelength (nat_lt wave 31)
+    >> ensure (wave + 2) (length fields) WrongCount (length fields == columns)
+    >> ensure (wave + 2) 1 BadWavelength (is_wavelength (400 + 10 * wave) (first_field fields))
+    >> each (next_reflectance (wave + 2)) [] (drop 1 fields)
 
 abbrev pub next_row : ℕ → List (List ℕ) → List (List ℕ) → Result (List ℕ) TableFault
 next_row columns before fields = row_of columns (length before) (trimmed_fields fields)
 
--- The records behind the header: the first is that of 400 nm, each further one stands 10 nm on, and the last is that of 700 nm.
+-- The records after the header: the first is that of 400 nm, each further one stands 10 nm on, and the last is that of 700 nm.
 unfoldable pub rows_of : ℕ → Table → Result (List (List ℕ)) TableFault
 rows_of columns records = do
   rows ← each (next_row columns) [] records

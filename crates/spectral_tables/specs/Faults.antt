@@ -34,7 +34,7 @@ abbrev pub or_fault : {A : Type 0} → ℕ → ℕ → TableRule → Option A �
 or_fault row column rule (Some x) = Ok x
 or_fault row column rule None = Err (fault row column rule)
 
--- The items in turn, up to the first fault: the reader of an item is told what those before it gave.
+-- The items in turn, up to the first fault: the reader of an item is given what those before it gave.
 abbrev pub each : {A B : Type 0} → (List A → B → Result A TableFault) → List A → List B → Result (List A) TableFault
 each read before [] = Ok before
 each read before (item ∷ items) = do

@@ -1,6 +1,6 @@
 -- Weights outside 400 to 700 nm count to the weight at the nearer end.
 use Rattle.std.specs.Prelude.{◌≡◌, ◌+◌, ◌-◌, ◌*◌, ◌/◌, ◌%◌, ◌≤◌, ℕ, List, [], ◌∷◌, ◌++◌, take, drop}
-use Rattle.spectral_tables.specs.Weighing.{Triple, total_of}
+use Rattle.spectral_tables.specs.WeightTable.{Triple, total_of}
 
 -- a run of rows by 10 nm from `first` on that lies within 300 to 830 nm and covers 400 to 700 nm
 pub record Covers (first count : ℕ) : Type 0 where

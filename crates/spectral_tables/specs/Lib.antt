@@ -7,8 +7,9 @@ pub mod Curve
 pub mod CurveBook
 pub mod CurveFile
 pub mod Rows
-pub mod Weighing
+pub mod WeightTable
 pub mod Fold
 pub mod Run
 pub mod WeightFile
 pub mod Spectrum
+pub mod Laws

@@ -1,7 +1,9 @@
 -- The records of a table file.
-use Rattle.std.specs.Prelude.{ℕ, Bool, false, List, [], ◌∷◌, map}
+use Rattle.std.specs.Prelude.{⊤, ℕ, Bool, false, List, [], ◌∷◌, map}
 use Rattle.std.specs.Str.{bytes_eq}
 use Rattle.csv.specs.Reading.{records, default_config, strip_bom}
+use Rattle.csv.specs.declared.error.ErrorKind.{ErrorKind}
+use Rattle.csv.specs.declared.error.ErrorKind.TheVariants.{Deserialize, Io, OutOfMemory, Serialize, UnequalLengths, Utf8}
 use Rattle.spectral_tables.specs.Trim.{trimmed}
 
 -- a table: its records in turn, each a list of fields
@@ -25,3 +27,12 @@ begins_with text (first ∷ _) = bytes_eq text first
 abbrev pub first_field : List (List ℕ) → List ℕ
 first_field [] = []
 first_field (first ∷ _) = first
+
+-- an error that a flexible reader over bytes may give: of memory, or of what it reads from
+abbrev pub CanRefuseBytes : ErrorKind → Type 0
+CanRefuseBytes OutOfMemory = ⊤
+CanRefuseBytes (Io e) = ⊤
+CanRefuseBytes (UnequalLengths pos expected len) = ⊥
+CanRefuseBytes (Utf8 pos err) = ⊥
+CanRefuseBytes (Serialize text) = ⊥
+CanRefuseBytes (Deserialize pos err) = ⊥

@@ -7,7 +7,7 @@ use Rattle.spectral_tables.specs.Curve.{IsReflectance}
 abbrev pub rows_view : Vec (Vec ℕ) → List (List ℕ)
 rows_view rows = map (λ row. row.items) rows.items
 
--- a row has a reflectance in each column behind the first
+-- a row has a reflectance in each column after the first
 pub record IsRow (columns : ℕ) (row : List ℕ) : Type 0 where
   pub count : length row + 1 ≡ columns
   pub range : All IsReflectance row

@@ -2,7 +2,7 @@
 use Rattle.std.specs.Prelude.{◌≡◌, ◌+◌, ◌*◌, ◌%◌, ◌≤◌, ℕ, Bool, ◌&&◌, ◌==◌, nat_le, if◌then◌else◌, List, [], ◌∷◌, ◌++◌, All, length, Option, Some, None, option_and_then}
 use Rattle.dec_text.specs.Decimal.{decimal_of}
 use Rattle.spectral_tables.specs.Numbers.{natural_in, number_read}
-use Rattle.spectral_tables.specs.Weighing.{Triple, IsTriple}
+use Rattle.spectral_tables.specs.WeightTable.{Triple, IsTriple}
 
 -- the rows that were read so far: the first wavelength, and the weights of each
 pub record Rows : Type 0 where
@@ -13,11 +13,11 @@ pub record Rows : Type 0 where
 abbrev pub no_rows : Rows
 no_rows = record { first = 300; triples = [] }
 
--- the number of the record behind the rows
+-- the number of the record after the rows
 abbrev pub row_behind : Rows → ℕ
 row_behind rows = length rows.triples + 2
 
--- the wavelength behind the last row
+-- the wavelength after the last row
 abbrev pub wavelength_behind : Rows → ℕ
 wavelength_behind rows = rows.first + 10 * length rows.triples
 
@@ -47,4 +47,4 @@ pub record IsRun (rows : Rows) : Type 0 where
   pub from : 300 ≤ rows.first
   pub start : rows.first ≤ 400
   pub within : wavelength_behind rows ≤ 840
-  pub sizes : All IsTriple rows.triples
+  pub magnitudes : All IsTriple rows.triples

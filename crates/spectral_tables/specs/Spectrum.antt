@@ -1,14 +1,14 @@
--- A spectrum: the reflectance at each place, as an interval at a scale n.
+-- A spectrum: the reflectance at each wavelength, as an interval at a scale n.
 use Rattle.std.specs.Prelude.{ℕ, pos, ◌^◌, List, All, length, map}
 use Rattle.interval_specs.specs.Ends.{Ends}
 use Rattle.interval_specs.specs.Operations.{ratio_at}
 use Rattle.interval_specs.specs.Ranges.{UpTo}
-use Rattle.spectral_tables.specs.Curve.{IsPlaceCount}
+use Rattle.spectral_tables.specs.Curve.{IsWaveCount}
 
--- what a spectrum keeps: no place is below 0 or above 1
-pub record IsSpectrum (n : ℕ) (places : List Ends) : Type 0 where
-  pub count : IsPlaceCount (length places)
-  pub range : All (UpTo n) places
+-- what a spectrum keeps: no reflectance is below 0 or above 1
+pub record IsSpectrum (n : ℕ) (intervals : List Ends) : Type 0 where
+  pub count : IsWaveCount (length intervals)
+  pub range : All (UpTo n) intervals
 
 -- the spectrum of a measured curve: each reflectance is its number of millionths over 10^6
 unfoldable pub spectrum_at : ℕ → List ℕ → List Ends

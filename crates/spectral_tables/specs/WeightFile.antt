@@ -6,11 +6,11 @@ use Rattle.spectral_tables.specs.declared.fault.TableFault.{TableFault}
 use Rattle.spectral_tables.specs.Faults.{◌>>=◌, ◌>>◌, fault, ensure, or_fault, each}
 use Rattle.spectral_tables.specs.Records.{Table, records_of, trimmed_fields, begins_with, first_field}
 use Rattle.spectral_tables.specs.Numbers.{number_read}
-use Rattle.spectral_tables.specs.Weighing.{Triple, Weighing, IsTriple, at_column, size_sum}
+use Rattle.spectral_tables.specs.WeightTable.{Triple, WeightTable, IsTriple, at_column, magnitude_sum}
 use Rattle.spectral_tables.specs.Fold.{fold_of}
 use Rattle.spectral_tables.specs.Run.{Rows, no_rows, row_behind, reaches_end, due_wavelength, rows_with}
 
--- A weight with up to five places, or a white value, which is above 0: at most 1,000 in size.
+-- A weight with up to five decimals, or a white value, which is above 0: at most 1,000 in magnitude.
 unfoldable pub weight_of : Bool → ℕ → ℕ → List ℕ → Result ℤ TableFault
 weight_of is_white row column field = do
   number ← or_fault row column BadNumber (number_read (decimal_of 5 field))
@@ -38,20 +38,20 @@ white_of rows fields =
     ensure (row_behind rows) 1 BadWavelength (reaches_end rows)
     >> each (next_weight true (row_behind rows)) [] (drop 1 fields)
 
--- twice the white value of a column is at least the sum of the sizes of its weights
+-- twice the white value of a column is at least the sum of the magnitudes of its weights
 abbrev pub ensure_balance : Rows → Triple → ℕ → Result (Unit {0}) TableFault
 ensure_balance rows white column =
-    ensure (row_behind rows) (column + 2) Unbalanced (nat_le (size_sum column rows.triples) (2 * unsigned_abs (at_column column white)))
+    ensure (row_behind rows) (column + 2) Unbalanced (nat_le (magnitude_sum column rows.triples) (2 * unsigned_abs (at_column column white)))
 
--- the weights at the white record, behind which no record stands
-unfoldable pub closed_of : Rows → Triple → Table → Result Weighing TableFault
+-- the weights at the white record, after which no record stands
+unfoldable pub closed_of : Rows → Triple → Table → Result WeightTable TableFault
 closed_of rows white records =
     ensure_balance rows white 0 >> ensure_balance rows white 1 >> ensure_balance rows white 2
     >> ensure (row_behind rows + 1) 1 BadWavelength (length records == 0)
     >> Ok (record { weights = fold_of rows.first rows.triples; white = white })
 
--- the records behind the rows, up to the white one
-unfoldable pub weights_from : Rows → Table → Result Weighing TableFault
+-- the records after the rows, up to the white one
+unfoldable pub weights_from : Rows → Table → Result WeightTable TableFault
 weights_from rows [] = Err (fault (row_behind rows) 1 NoWhite)
 weights_from rows (line ∷ records) =
     ensure (row_behind rows) (length line) WrongCount (length line == 4)
@@ -59,12 +59,12 @@ weights_from rows (line ∷ records) =
     then white_of rows (trimmed_fields line) >>= (λ white. closed_of rows white records)
     else with_row rows (trimmed_fields line) >>= (λ more. weights_from more records))
 
--- the weights of a table, or its first fault: behind `nm`, the header has three fields with any text
-unfoldable pub weights_of : Table → Result Weighing TableFault
+-- the weights of a table, or its first fault: after `nm`, the header has three fields with any text
+unfoldable pub weights_of : Table → Result WeightTable TableFault
 weights_of [] = Err (fault 1 1 NoHeader)
 weights_of (header ∷ records) =
     ensure 1 1 NoHeader (begins_with (codes "nm") (trimmed_fields header) && (length header == 4)) >> weights_from no_rows records
 
 -- the weights of a file, or its first fault
-abbrev pub weight_table_of : List ℕ → Result Weighing TableFault
+abbrev pub weight_table_of : List ℕ → Result WeightTable TableFault
 weight_table_of bytes = weights_of (records_of bytes)

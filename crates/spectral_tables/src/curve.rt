@@ -7,15 +7,16 @@ use arrayvec::ArrayVec;
 use std::alloc::AllocError;
 use std::marker::Model;
 
-/// How many places a curve has: 400 to 700 nm by 10.
-pub(crate) const PLACES: usize = 31;
+/// How many wavelengths a curve has: 400 to 700 nm by 10.
+pub(crate) const WAVES: usize = 31;
 
-/// The reflectances of one cloth in millionths, by rising wavelength: 31 of them, for 400 to 700 nm by 10.
+/// The reflectances of one cloth in millionths, by rising wavelength: 31 of them, for 400 to 700 nm
+/// by 10.
 ///
-/// A `wave` counts these places from 0.
+/// A `wave` is the index of a wavelength.
 #[derive(Debug, Drop)]
 pub struct Curve {
-    places: ArrayVec<u32, PLACES>,
+    millionths: ArrayVec<u32, WAVES>,
 }
 
 impl Model for Curve {
@@ -24,9 +25,9 @@ impl Model for Curve {
 
     ghost Value = { List ℕ };
 
-    ghost view = { λ c. c.places.items };
+    ghost view = { λ c. c.millionths.items };
 
-    ghost invariant = { λ c. IsCurve c.places.items };
+    ghost invariant = { λ c. IsCurve c.millionths.items };
 }
 
 impl Curve {
@@ -36,29 +37,29 @@ impl Curve {
         ensures is { result ≡ millionths.now }
         ensures held { IsCurve result }
     {
-        let mut places = ArrayVec::new();
+        let mut stored = ArrayVec::new();
         for reflectance in millionths {
-            places.push(*reflectance);
+            stored.push(*reflectance);
         }
-        Curve { places }
+        Curve { millionths: stored }
     }
 
-    /// The reflectance at a place, in millionths.
+    /// The reflectance at a wavelength, in millionths.
     pub fn at(&self, wave: usize) -> u32
         requires { wave < length self.now }
         ensures is { result ≡ slice_index self.now wave }
         ensures range { IsReflectance result }
         ensures held { IsCurve self.now }
     {
-        self.places.as_slice()[wave]
+        self.millionths.as_slice()[wave]
     }
 
-    /// How many places it has.
+    /// How many wavelengths it has.
     pub fn waves(&self) -> usize
         ensures is { result ≡ length self.now }
         ensures held { IsCurve self.now }
     {
-        self.places.len()
+        self.millionths.len()
     }
 
     /// Its reflectances in millionths.
@@ -66,7 +67,7 @@ impl Curve {
         ensures is { result.now ≡ self.now }
         ensures held { IsCurve self.now }
     {
-        self.places.as_slice()
+        self.millionths.as_slice()
     }
 }
 
@@ -89,6 +90,6 @@ impl Default for Curve {
     ghost is_default = { λ c. c ≡ full_curve };
 
     fn default() -> Curve {
-        Curve::of(&[1_000_000; PLACES])
+        Curve::of(&[1_000_000; WAVES])
     }
 }

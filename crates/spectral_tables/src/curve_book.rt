@@ -2,7 +2,7 @@
 
 ghost use Rattle.std.specs.Prelude.{◌≡◌, length, IfSome, option_map};
 ghost use Rattle.spectral_tables.specs.Curve.{IsCurve};
-ghost use Rattle.spectral_tables.specs.CurveBook.{curve_named, place_count, IsBook};
+ghost use Rattle.spectral_tables.specs.CurveBook.{curve_named, wave_count, IsBook};
 
 use crate::curve::Curve;
 use indexmap::IndexMap;
@@ -29,7 +29,7 @@ impl CurveBook {
     pub fn find(&self, name: &str) -> Option<&Curve>
         ensures is { option_map (λ c. c.now) result ≡ curve_named name.now self.now }
         ensures curve { IfSome result (λ c. IsCurve c.now) }
-        ensures places { IfSome result (λ c. length c.now ≡ place_count self.now) }
+        ensures waves { IfSome result (λ c. length c.now ≡ wave_count self.now) }
         ensures held { IsBook self.now }
     {
         self.curves.get(name.as_bytes())

@@ -3,11 +3,11 @@
 ghost use Rattle.std.specs.Prelude.{◌≡◌, ◌+◌, ◌<◌, [], length, map, All, IfOk};
 ghost use Rattle.std.specs.List.{IsDistinct};
 ghost use Rattle.std.specs.Str.{bytes_eq};
-ghost use Rattle.spectral_tables.specs.Curve.{IsCurve, IsPlaceCount, IsReflectance};
+ghost use Rattle.spectral_tables.specs.Curve.{IsCurve, IsWaveCount, IsReflectance};
 ghost use Rattle.spectral_tables.specs.Rows.{IsRow};
 ghost use Rattle.spectral_tables.specs.CurveFile.{column_of, curves_under};
 
-use crate::curve::{Curve, PLACES};
+use crate::curve::{Curve, WAVES};
 use crate::curve_book::CurveBook;
 use arrayvec::ArrayVec;
 use indexmap::IndexMap;
@@ -15,17 +15,17 @@ use std::alloc::{AllocError, Global};
 
 /// The curve of a column: the value of each row there.
 fn curve_of(rows: &[Vec<u32>], column: usize) -> Curve
-    requires places { IsPlaceCount (length rows.now) }
+    requires waves { IsWaveCount (length rows.now) }
     requires within { All (λ row. column < length row.items) rows.now }
     requires range { All (λ row. All IsReflectance row.items) rows.now }
     ensures is { result ≡ column_of column (map (λ row. row.items) rows.now) }
     ensures held { IsCurve result }
 {
-    let mut places: ArrayVec<u32, PLACES> = ArrayVec::new();
+    let mut values: ArrayVec<u32, WAVES> = ArrayVec::new();
     for row in rows {
-        places.push(row[column]);
+        values.push(row[column]);
     }
-    Curve::of(places.as_slice())
+    Curve::of(values.as_slice())
 }
 
 /// The curves under distinct names, one a column.
@@ -34,10 +34,11 @@ pub(crate) fn book_of(
     names: &[&[u8]],
     rows: &[Vec<u32>],
 ) -> Result<CurveBook, AllocError>
-    requires places { IsPlaceCount (length rows.now) }
+    requires waves { IsWaveCount (length rows.now) }
     requires shape { All (IsRow (length names.now + 1)) (map (λ row. row.items) rows.now) }
     requires distinct { IsDistinct bytes_eq (map (λ n. n.now) names.now) }
-    ensures { IfOk result (λ b. b ≡ curves_under [] (map (λ row. row.items) rows.now) (map (λ n. n.now) names.now)) }
+    ensures { IfOk result (λ b. b
+        ≡ curves_under [] (map (λ row. row.items) rows.now) (map (λ n. n.now) names.now)) }
 {
     let mut curves = IndexMap::new(alloc);
     for (column, name) in names.iter().enumerate() {

@@ -10,7 +10,7 @@ use crate::curve_book::CurveBook;
 use crate::curve_columns::book_of;
 use crate::curve_header::names_of;
 use crate::curve_rows::rows_of;
-use crate::fault::{Place, TableError, TableRule};
+use crate::fault::{Cell, TableError, TableRule};
 use crate::records::{fields_of, records_of};
 use csv::ByteRecord;
 use std::alloc::Global;
@@ -21,7 +21,7 @@ fn curves_of(alloc: Global, records: &[ByteRecord]) -> Result<CurveBook, TableEr
     ensures { Gives (λ b. b) result (curves_of (map stored_fields records.now)) }
 {
     let [header, lines @ ..] = records else {
-        let start = Place { row: 1, column: 1 };
+        let start = Cell { row: 1, column: 1 };
         return Err(TableError::Fault(start.fault(TableRule::NoHeader)));
     };
     let fields = fields_of(alloc, header)?;
@@ -32,10 +32,11 @@ fn curves_of(alloc: Global, records: &[ByteRecord]) -> Result<CurveBook, TableEr
 
 /// The curves of a file of at most 1,000,000 bytes, by name in the order of their columns.
 ///
-/// The first record is `nm` and 1 to 64 names. Each further record is a wavelength, 400 to 700 nm by 10, and
-/// a percentage from 0.01 to 100 under each name. A byte order mark and spaces and tabs around a field are let be.
+/// The first record is `nm` and 1 to 64 names. Each further record is a wavelength, 400 to 700 nm
+/// by 10, and a percentage from 0.01 to 100 under each name. A byte order mark and spaces and tabs
+/// around a field are ignored.
 ///
-/// The error is the first fault with its place, or want of memory.
+/// The error is the first fault with its row and column, or that memory ran out.
 pub fn read_curves(alloc: Global, bytes: &[u8]) -> Result<CurveBook, TableError>
     requires { length bytes.now ≤ 1000000 }
     ensures exact { Gives (λ b. b) result (curve_table_of bytes.now) }

@@ -6,7 +6,7 @@ ghost use Rattle.std.specs.Str.{bytes_eq};
 ghost use Rattle.spectral_tables.specs.Faults.{each, Gives, unless_fault};
 ghost use Rattle.spectral_tables.specs.CurveFile.{is_curve_header, next_name, next_different, names_of};
 
-use crate::fault::{Place, TableError, TableFault, TableRule};
+use crate::fault::{Cell, TableError, TableFault, TableRule};
 use crate::fields::begins_with;
 use crate::name::is_name;
 use std::alloc::Global;
@@ -17,13 +17,13 @@ fn is_curve_header(fields: &[&[u8]]) -> bool
     begins_with(fields, b"nm") && 2 <= fields.len() && fields.len() <= 65
 }
 
-/// The place of the field behind so many names.
-fn place_behind(names: usize) -> Place
+/// The cell after so many names of the header.
+fn cell_after(names: usize) -> Cell
     requires { names < 65 }
     ensures row { result.row ≡ 1 }
     ensures column { result.column ≡ names + 2 }
 {
-    Place {
+    Cell {
         row: 1,
         column: names as u32 + 2,
     }
@@ -31,12 +31,13 @@ fn place_behind(names: usize) -> Place
 
 fn all_names<'a>(alloc: Global, fields: &[&'a [u8]]) -> Result<Vec<&'a [u8]>, TableError>
     requires { length fields.now < 65 }
-    ensures is { Gives (λ v. map (λ f. f.now) v.items) result (each next_name [] (map (λ f. f.now) fields.now)) }
+    ensures is { Gives (λ v. map (λ f. f.now) v.items) result
+        (each next_name [] (map (λ f. f.now) fields.now)) }
     ensures count { IfOk result (λ v. vec_len v ≡ length fields.now) }
 {
     let mut names = Vec::new(alloc);
     for field in fields {
-        place_behind(names.len()).ensure(is_name(*field), TableRule::NoHeader)?;
+        cell_after(names.len()).ensure(is_name(*field), TableRule::NoHeader)?;
         names.push(*field)?;
     }
     Ok(names)
@@ -50,14 +51,16 @@ fn is_among(name: &[u8], names: &[&[u8]]) -> bool
 
 fn is_different(earlier: &[&[u8]], name: &[u8]) -> Result<(), TableFault>
     requires { length earlier.now < 65 }
-    ensures { unless_fault result name.now ≡ next_different (map (λ n. n.now) earlier.now) name.now }
+    ensures { unless_fault result name.now
+        ≡ next_different (map (λ n. n.now) earlier.now) name.now }
 {
-    place_behind(earlier.len()).ensure(!is_among(name, earlier), TableRule::DoubleName)
+    cell_after(earlier.len()).ensure(!is_among(name, earlier), TableRule::DoubleName)
 }
 
 fn all_different(names: &[&[u8]]) -> Result<(), TableFault>
     requires { length names.now < 65 }
-    ensures { unless_fault result (map (λ n. n.now) names.now) ≡ each next_different [] (map (λ n. n.now) names.now) }
+    ensures { unless_fault result (map (λ n. n.now) names.now)
+        ≡ each next_different [] (map (λ n. n.now) names.now) }
 {
     for (i, name) in names.iter().enumerate() {
         is_different(&names[..i], *name)?;
@@ -68,11 +71,12 @@ fn all_different(names: &[&[u8]]) -> Result<(), TableFault>
 /// The names of the header's fields.
 #[tactic(auto, unfolding(crate::specs::CurveFile::names_of))]
 pub(crate) fn names_of<'a>(alloc: Global, fields: &[&'a [u8]]) -> Result<Vec<&'a [u8]>, TableError>
-    ensures is { Gives (λ v. map (λ n. n.now) v.items) result (names_of (map (λ f. f.now) fields.now)) }
+    ensures is { Gives (λ v. map (λ n. n.now) v.items) result
+        (names_of (map (λ f. f.now) fields.now)) }
     ensures distinct { IfOk result (λ v. IsDistinct bytes_eq (map (λ n. n.now) v.items)) }
     ensures count { IfOk result (λ v. vec_len v < 65) }
 {
-    let start = Place { row: 1, column: 1 };
+    let start = Cell { row: 1, column: 1 };
     start.ensure(is_curve_header(fields), TableRule::NoHeader)?;
     let names = all_names(alloc, &fields[1..])?;
     all_different(&names)?;

@@ -8,8 +8,8 @@ ghost use Rattle.spectral_tables.specs.Rows.{rows_view, IsRow};
 ghost use Rattle.spectral_tables.specs.Faults.{each, Gives};
 ghost use Rattle.spectral_tables.specs.CurveFile.{reflectance_of, next_reflectance, row_of, rows_of};
 
-use crate::curve::PLACES;
-use crate::fault::{Place, TableError, TableFault, TableRule};
+use crate::curve::WAVES;
+use crate::fault::{Cell, TableError, TableFault, TableRule};
 use crate::fields::first_field;
 use crate::numbers::{is_wavelength, natural_in, number};
 use crate::records::fields_of;
@@ -18,53 +18,49 @@ use std::alloc::Global;
 
 /// The percentage of a field, in millionths.
 #[tactic(auto, unfolding(crate::specs::CurveFile::reflectance_of))]
-fn reflectance(place: Place, field: &[u8]) -> Result<u32, TableFault>
-    ensures is { result ≡ reflectance_of place.row place.column field.now }
+fn reflectance(cell: Cell, field: &[u8]) -> Result<u32, TableFault>
+    ensures is { result ≡ reflectance_of cell.row cell.column field.now }
     ensures range { IfOk result IsReflectance }
 {
-    let number = number(field, 4).ok_or(place.fault(TableRule::BadNumber))?;
-    natural_in(number, 100, 1_000_000).ok_or(place.fault(TableRule::OutOfRange))
+    let number = number(field, 4).ok_or(cell.fault(TableRule::BadNumber))?;
+    natural_in(number, 100, 1_000_000).ok_or(cell.fault(TableRule::OutOfRange))
 }
 
 fn values(alloc: Global, row: u32, fields: &[&[u8]]) -> Result<Vec<u32>, TableError>
     requires { length fields.now < 2 ^ 32 - 2 }
-    ensures is { Gives (λ v. v.items) result (each (next_reflectance row) [] (map (λ f. f.now) fields.now)) }
+    ensures is { Gives (λ v. v.items) result
+        (each (next_reflectance row) [] (map (λ f. f.now) fields.now)) }
     ensures range { IfOk result (λ v. All IsReflectance v.items) }
     ensures count { IfOk result (λ v. vec_len v ≡ length fields.now) }
 {
     let mut values = Vec::new(alloc);
     for field in fields {
         let column = values.len() as u32 + 2;
-        values.push(reflectance(Place { row, column }, *field)?)?;
+        values.push(reflectance(Cell { row, column }, *field)?)?;
     }
     Ok(values)
 }
 
-/// The record behind so many rows.
+/// The record after so many rows.
 #[tactic(auto, unfolding(crate::specs::CurveFile::row_of))]
-fn row(
-    alloc: Global,
-    columns: usize,
-    place: usize,
-    fields: &[&[u8]],
-) -> Result<Vec<u32>, TableError>
+fn row(alloc: Global, columns: usize, wave: usize, fields: &[&[u8]]) -> Result<Vec<u32>, TableError>
     requires some { 0 < columns }
-    requires due { place ≤ 31 }
+    requires due { wave ≤ 31 }
     requires few { length fields.now < 2 ^ 32 - 2 }
-    ensures is { Gives (λ v. v.items) result (row_of columns place (map (λ f. f.now) fields.now)) }
+    ensures is { Gives (λ v. v.items) result (row_of columns wave (map (λ f. f.now) fields.now)) }
     ensures range { IfOk result (λ v. All IsReflectance v.items) }
     ensures count { IfOk result (λ v. vec_len v + 1 ≡ columns) }
-    ensures within { IfOk result (λ v. place < 31) }
+    ensures within { IfOk result (λ v. wave < 31) }
 {
-    let row = place as u32 + 2;
-    let start = Place { row, column: 1 };
-    start.ensure(place < PLACES, TableRule::BadWavelength)?;
-    let end = Place {
+    let row = wave as u32 + 2;
+    let start = Cell { row, column: 1 };
+    start.ensure(wave < WAVES, TableRule::BadWavelength)?;
+    let end = Cell {
         row,
         column: fields.len() as u32,
     };
     end.ensure(fields.len() == columns, TableRule::WrongCount)?;
-    let due = 400 + 10 * place as u32;
+    let due = 400 + 10 * wave as u32;
     start.ensure(
         is_wavelength(first_field(fields), due),
         TableRule::BadWavelength,
@@ -75,19 +71,20 @@ fn row(
 fn next_row(
     alloc: Global,
     columns: usize,
-    place: usize,
+    wave: usize,
     line: &ByteRecord,
 ) -> Result<Vec<u32>, TableError>
     requires some { 0 < columns }
-    requires due { place ≤ 31 }
+    requires due { wave ≤ 31 }
     requires few { length (stored_fields line.now) < 2 ^ 32 - 2 }
-    ensures is { Gives (λ v. v.items) result (row_of columns place (trimmed_fields (stored_fields line.now))) }
+    ensures is { Gives (λ v. v.items) result
+        (row_of columns wave (trimmed_fields (stored_fields line.now))) }
     ensures range { IfOk result (λ v. All IsReflectance v.items) }
     ensures count { IfOk result (λ v. vec_len v + 1 ≡ columns) }
-    ensures within { IfOk result (λ v. place < 31) }
+    ensures within { IfOk result (λ v. wave < 31) }
 {
     let fields = fields_of(alloc, line)?;
-    row(alloc, columns, place, &fields)
+    row(alloc, columns, wave, &fields)
 }
 
 /// The rows of all wavelengths.
@@ -108,10 +105,10 @@ pub(crate) fn rows_of(
         let row = next_row(alloc, columns, rows.len(), line)?;
         rows.push(row)?;
     }
-    let end = Place {
+    let end = Cell {
         row: rows.len() as u32 + 2,
         column: 1,
     };
-    end.ensure(rows.len() == PLACES, TableRule::BadWavelength)?;
+    end.ensure(rows.len() == WAVES, TableRule::BadWavelength)?;
     Ok(rows)
 }

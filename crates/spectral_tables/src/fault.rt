@@ -15,7 +15,7 @@ pub enum TableRule {
     BadWavelength,
     /// A record has another number of fields than the header.
     WrongCount,
-    /// A field is no decimal number with the places that it may have.
+    /// A field is no decimal number with the decimals that it may have.
     BadNumber,
     /// A number is below or above its range.
     OutOfRange,
@@ -25,7 +25,7 @@ pub enum TableRule {
     NoWhite,
     /// A white value is not above 0.
     WhiteNotPositive,
-    /// The sizes of a column's weights add up to more than twice its white value.
+    /// The magnitudes of a column's weights add up to more than twice its white value.
     Unbalanced,
 }
 
@@ -75,14 +75,14 @@ impl<T: Drop> From<AllocFailed<T>> for TableError {
     }
 }
 
-/// A record and a field in it, each counted from 1.
+/// A field of a table: its record and its number in that, each counted from 1.
 #[derive(Clone, Copy)]
-pub(crate) struct Place {
+pub(crate) struct Cell {
     pub(crate) row: u32,
     pub(crate) column: u32,
 }
 
-impl Place {
+impl Cell {
     ghost use Rattle.spectral_tables.specs.Faults.{fault, ensure};
 
     pub(crate) fn fault(self, rule: TableRule) -> TableFault

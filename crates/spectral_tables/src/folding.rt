@@ -1,17 +1,17 @@
 //! Weights outside 400 to 700 nm.
 
 ghost use Rattle.std.specs.Prelude.{◌≡◌, ◌*◌, ◌≤◌, ◌<◌, ◌^◌, length, All, unsigned_abs};
-ghost use Rattle.spectral_tables.specs.Weighing.{IsTriple, column_sum, total_of};
+ghost use Rattle.spectral_tables.specs.WeightTable.{IsTriple, column_sum, total_of};
 ghost use Rattle.spectral_tables.specs.Fold.{Covers, fold_of};
 
-use crate::curve::PLACES;
+use crate::curve::WAVES;
 use arrayvec::ArrayVec;
 
 /// The sum of a column.
 fn column_sum(triples: &[[i64; 3]], column: usize) -> i64
     requires column { column < 3 }
     requires few { length triples.now ≤ 60 }
-    requires sizes { All IsTriple triples.now }
+    requires magnitudes { All IsTriple triples.now }
     ensures { result ≡ column_sum column triples.now }
 {
     let mut sum = 0;
@@ -23,7 +23,7 @@ fn column_sum(triples: &[[i64; 3]], column: usize) -> i64
 
 fn total(triples: &[[i64; 3]]) -> [i64; 3]
     requires few { length triples.now ≤ 60 }
-    requires sizes { All IsTriple triples.now }
+    requires magnitudes { All IsTriple triples.now }
     ensures { result ≡ total_of triples.now }
 {
     [
@@ -38,17 +38,17 @@ fn total(triples: &[[i64; 3]]) -> [i64; 3]
 #[tactic(auto, unfolding(crate::specs::Fold::fold_of))]
 pub fn fold(first: u16, triples: &[[i64; 3]]) -> [[i64; 3]; 31]
     requires run { Covers first (length triples.now) }
-    requires sizes { All IsTriple triples.now }
+    requires magnitudes { All IsTriple triples.now }
     ensures { result ≡ fold_of first triples.now }
 {
     let below = (400 - first as usize) / 10;
     let (low, rest) = triples.split_at(below + 1);
-    let (middle, high) = rest.split_at(PLACES - 2);
-    let mut places: ArrayVec<[i64; 3], PLACES> = ArrayVec::new();
-    places.push(total(low));
+    let (middle, high) = rest.split_at(WAVES - 2);
+    let mut folded: ArrayVec<[i64; 3], WAVES> = ArrayVec::new();
+    folded.push(total(low));
     for triple in middle {
-        places.push(*triple);
+        folded.push(*triple);
     }
-    places.push(total(high));
-    places.into_inner().unwrap()
+    folded.push(total(high));
+    folded.into_inner().unwrap()
 }

@@ -10,6 +10,7 @@ mod curve_rows;
 mod fault;
 mod fields;
 mod folding;
+pub mod laws;
 mod name;
 mod numbers;
 mod records;
@@ -29,6 +30,3 @@ pub use name::is_name;
 pub use spectrum::Spectrum;
 pub use weight_file::read_weights;
 pub use weights::Weights;
-
-#[cfg(test)]
-mod tests;

@@ -17,12 +17,12 @@ pub(crate) fn is_wavelength(field: &[u8], nm: u32) -> bool
     }
 }
 
-/// The number of a field, in units of its last place.
-pub(crate) fn number(field: &[u8], places: u8) -> Option<i64>
-    requires { places ≤ 6 }
-    ensures { result ≡ number_read (decimal_of places field.now) }
+/// The number of a field, counted in its last decimal.
+pub(crate) fn number(field: &[u8], decimals: u8) -> Option<i64>
+    requires { decimals ≤ 6 }
+    ensures { result ≡ number_read (decimal_of decimals field.now) }
 {
-    read_decimal(field, places).ok()
+    read_decimal(field, decimals).ok()
 }
 
 /// The number, where it lies in the range.

@@ -3,10 +3,10 @@
 ghost use Rattle.std.specs.Prelude.{◌≡◌, ◌+◌, ◌≤◌, length, map, All, IfOk, List, ℕ};
 ghost use Rattle.csv.specs.Reading.{strip_bom};
 ghost use Rattle.csv.specs.Records.{fields_of};
-ghost use Rattle.spectral_tables.specs.Records.{records_of, trimmed_fields};
+ghost use Rattle.spectral_tables.specs.Records.{CanRefuseBytes, records_of, trimmed_fields};
 
 use crate::trim::trimmed;
-use csv::{ByteRecord, ReaderBuilder};
+use csv::{ByteRecord, ErrorKind, ReaderBuilder};
 use std::alloc::{AllocError, Global};
 
 #[tactic(auto, unfolding(csv::specs::Reading::strip_bom))]
@@ -19,10 +19,23 @@ fn without_mark(bytes: &[u8]) -> &[u8]
     }
 }
 
+/// The one error of a flexible reader over bytes: memory ran out. Its records may have any length,
+/// and their bytes need be no text. Whether the reader underneath fails `csv` leaves open; one over
+/// bytes never does.
+fn refusal(kind: &ErrorKind) -> AllocError
+    requires { CanRefuseBytes kind.now }
+{
+    match kind {
+        ErrorKind::OutOfMemory | ErrorKind::Io(_) => AllocError,
+        _ => unreachable!(),
+    }
+}
+
 /// The records of the bytes, each with its fields as they stand.
 pub(crate) fn records_of(alloc: Global, bytes: &[u8]) -> Result<Vec<ByteRecord>, AllocError>
     ensures records { IfOk result (λ v. map fields_of v.items ≡ records_of bytes.now) }
-    ensures fits { IfOk result (λ v. All (λ r. length (fields_of r) ≤ length bytes.now + 1) v.items) }
+    ensures fits { IfOk result (λ v.
+        All (λ r. length (fields_of r) ≤ length bytes.now + 1) v.items) }
 {
     let reader = ReaderBuilder::new()
         .has_headers(false)
@@ -32,7 +45,7 @@ pub(crate) fn records_of(alloc: Global, bytes: &[u8]) -> Result<Vec<ByteRecord>,
     for record in reader.into_byte_records() {
         match record {
             Ok(line) => records.push(line)?,
-            Err(_) => return Err(AllocError),
+            Err(error) => return Err(refusal(error.kind())),
         }
     }
     Ok(records)

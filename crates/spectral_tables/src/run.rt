@@ -2,7 +2,7 @@
 
 ghost use Rattle.std.specs.Prelude.{◌≡◌, ◌+◌, ◌*◌, ◌≤◌, ◌<◌, ◌^◌, ◌++◌, [], ◌∷◌, length, IfOk, IfSome, OnOk, option_and_then, if◌then◌else◌, ◌==◌, IsTrue};
 ghost use Rattle.dec_text.specs.Decimal.{decimal_of};
-ghost use Rattle.spectral_tables.specs.Weighing.{IsTriple};
+ghost use Rattle.spectral_tables.specs.WeightTable.{IsTriple};
 ghost use Rattle.spectral_tables.specs.Run.{Rows, IsRun, no_rows, row_behind, wavelength_behind, reaches_end, is_due, due_wavelength, rows_with};
 
 use crate::numbers::{natural_in, number};
@@ -50,7 +50,7 @@ impl Run {
         self.triples.as_slice()
     }
 
-    /// The number of the record behind the rows.
+    /// The number of the record after the rows.
     pub(crate) fn row_behind(&self) -> u32
         ensures is { result ≡ row_behind self.now }
         ensures few { result ≤ 60 }
@@ -58,7 +58,7 @@ impl Run {
         self.triples.len() as u32 + 2
     }
 
-    /// The wavelength behind the last row.
+    /// The wavelength after the last row.
     fn wavelength_behind(&self) -> u32
         ensures is { result ≡ wavelength_behind self.now }
         ensures held { IsRun self.now }
@@ -97,7 +97,7 @@ impl Run {
     pub(crate) fn with(self, nm: u32, triple: [i64; 3]) -> Result<Run, AllocError>
         requires range { (300 ≤ nm) × (nm ≤ 830) }
         requires due { IsTrue (is_due self nm) }
-        requires sizes { IsTriple triple }
+        requires magnitudes { IsTriple triple }
         ensures { IfOk result (λ r. r ≡ rows_with self nm triple) }
     {
         let Run { first, mut triples } = self;

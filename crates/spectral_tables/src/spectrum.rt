@@ -1,20 +1,20 @@
-//! The reflectance of a cloth at each place, as intervals.
+//! The reflectance of a cloth at each wavelength, as intervals.
 
 ghost use Rattle.std.specs.Prelude.{◌≡◌, ◌<◌, ◌≤◌, ◌^◌, Some, pos, length, slice_get};
 ghost use Rattle.interval_specs.specs.Operations.{ratio_at};
 ghost use Rattle.interval_specs.specs.Ranges.{UpTo};
 ghost use Rattle.spectral_tables.specs.Spectrum.{IsSpectrum, ends_of, spectrum_at};
 
-use crate::curve::{Curve, PLACES};
+use crate::curve::{Curve, WAVES};
 use arrayvec::ArrayVec;
 use fix_bounds::{Iv, Scale};
 use std::marker::{Model, PhantomData};
 
-/// A reflectance for each place by 10 nm from 400 to 700 nm, as an interval from 0 to 1 at the scale `S`.
-/// A `wave` counts the places from 0.
+/// A reflectance for each wavelength from 400 to 700 nm by 10, as an interval from 0 to 1 at the
+/// scale `S`. A `wave` is the index of a wavelength.
 #[derive(Drop)]
 pub struct Spectrum<S: Scale> {
-    places: ArrayVec<(u64, u64), PLACES>,
+    ends: ArrayVec<(u64, u64), WAVES>,
     scale: PhantomData<S>,
 }
 
@@ -25,17 +25,17 @@ impl<S: Scale> Model for Spectrum<S> {
 
     ghost Value = { List Ends };
 
-    ghost view = { λ s. map ends_of s.places.items };
+    ghost view = { λ s. map ends_of s.ends.items };
 
-    ghost invariant = { λ s. IsSpectrum S.unit (map ends_of s.places.items) };
+    ghost invariant = { λ s. IsSpectrum S.unit (map ends_of s.ends.items) };
 }
 
 /// The ends of an interval from 0 to 1, in parts of the scale.
-fn stored_ends<S: Scale>(place: Iv<S>) -> (u64, u64)
-    requires { UpTo S.unit place }
-    ensures { ends_of result ≡ place }
+fn stored_ends<S: Scale>(interval: Iv<S>) -> (u64, u64)
+    requires { UpTo S.unit interval }
+    ensures { ends_of result ≡ interval }
 {
-    (place.lo() as u64, place.hi() as u64)
+    (interval.lo() as u64, interval.hi() as u64)
 }
 
 /// The interval of stored ends.
@@ -48,37 +48,37 @@ fn opened<S: Scale>(ends: (u64, u64)) -> Iv<S>
 
 impl<S: Scale> Spectrum<S> {
     /// The spectrum of these intervals.
-    pub fn of(places: &[Iv<S>]) -> Spectrum<S>
-        requires { IsSpectrum S.unit places.now }
-        ensures is { result ≡ places.now }
+    pub fn of(intervals: &[Iv<S>]) -> Spectrum<S>
+        requires { IsSpectrum S.unit intervals.now }
+        ensures is { result ≡ intervals.now }
         ensures held { IsSpectrum S.unit result }
     {
         let mut stored = ArrayVec::new();
-        for place in places {
-            stored.push(stored_ends(*place));
+        for interval in intervals {
+            stored.push(stored_ends(*interval));
         }
         Spectrum {
-            places: stored,
+            ends: stored,
             scale: PhantomData,
         }
     }
 
-    /// The reflectance at a place.
+    /// The reflectance at a wavelength.
     pub fn at(&self, wave: usize) -> Iv<S>
         requires { wave < length self.now }
         ensures is { slice_get self.now wave ≡ Some result }
         ensures range { UpTo S.unit result }
         ensures held { IsSpectrum S.unit self.now }
     {
-        opened(self.places.as_slice()[wave])
+        opened(self.ends.as_slice()[wave])
     }
 
-    /// How many places it has.
+    /// How many wavelengths it has.
     pub fn waves(&self) -> usize
         ensures is { result ≡ length self.now }
         ensures held { IsSpectrum S.unit self.now }
     {
-        self.places.len()
+        self.ends.len()
     }
 }
 
@@ -103,7 +103,7 @@ impl Curve {
             stored.push(stored_ends(reflectance::<S>(*millionths)));
         }
         Spectrum {
-            places: stored,
+            ends: stored,
             scale: PhantomData,
         }
     }

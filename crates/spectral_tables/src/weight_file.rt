@@ -3,11 +3,11 @@
 ghost use Rattle.std.specs.Prelude.{◌≡◌, ℕ, ◌+◌, ◌-◌, ◌*◌, ◌<◌, ◌≤◌, ◌^◌, IsTrue, length, map, take, sum_by, All, IfOk, unsigned_abs};
 ghost use Rattle.csv.specs.Records.{fields_of as stored_fields};
 ghost use Rattle.spectral_tables.specs.Faults.{Gives};
-ghost use Rattle.spectral_tables.specs.Weighing.{IsTriple, IsWeighing, at_column, size_sum};
+ghost use Rattle.spectral_tables.specs.WeightTable.{IsTriple, IsWeightTable, at_column, magnitude_sum};
 ghost use Rattle.spectral_tables.specs.Run.{no_rows, reaches_end};
 ghost use Rattle.spectral_tables.specs.WeightFile.{IsWhite, ensure_balance, closed_of, weights_from, weights_of, weight_table_of};
 
-use crate::fault::{Place, TableError, TableFault, TableRule};
+use crate::fault::{Cell, TableError, TableFault, TableRule};
 use crate::fields::begins_with;
 use crate::folding::fold;
 use crate::records::{fields_of, records_of};
@@ -17,13 +17,13 @@ use crate::weights::Weights;
 use csv::ByteRecord;
 use std::alloc::Global;
 
-/// The sum of the sizes of a column.
-#[tactic(auto, unfolding(crate::specs::Weighing::size_sum))]
-fn size_sum(triples: &[[i64; 3]], column: usize) -> u64
+/// The sum of the magnitudes of a column.
+#[tactic(auto, unfolding(crate::specs::WeightTable::magnitude_sum))]
+fn magnitude_sum(triples: &[[i64; 3]], column: usize) -> u64
     requires column { column < 3 }
     requires few { length triples.now ≤ 60 }
-    requires sizes { All IsTriple triples.now }
-    ensures { result ≡ size_sum column triples.now }
+    requires magnitudes { All IsTriple triples.now }
+    ensures { result ≡ magnitude_sum column triples.now }
 {
     let mut sum = 0;
     for triple in triples {
@@ -32,24 +32,25 @@ fn size_sum(triples: &[[i64; 3]], column: usize) -> u64
     sum
 }
 
-/// Fails unless twice the white value of a column is at least the sum of the sizes of its weights.
+/// Fails unless twice the white value of a column is at least the sum of the magnitudes of its
+/// weights.
 fn ensure_balance(run: &Run, white: &[i64; 3], column: usize) -> Result<(), TableFault>
     requires column { column < 3 }
     requires white { IsWhite white.now }
     ensures { result ≡ ensure_balance run.now white.now column }
 {
-    let place = Place {
+    let cell = Cell {
         row: run.row_behind(),
         column: column as u32 + 2,
     };
-    let sizes = size_sum(run.triples(), column);
-    place.ensure(
-        sizes <= 2 * white[column].unsigned_abs(),
+    let magnitudes = magnitude_sum(run.triples(), column);
+    cell.ensure(
+        magnitudes <= 2 * white[column].unsigned_abs(),
         TableRule::Unbalanced,
     )
 }
 
-/// The weights at the white record, with `behind` records behind it.
+/// The weights at the white record, with `after` records after it.
 #[tactic(auto, unfolding(crate::specs::WeightFile::closed_of))]
 fn closed(run: &Run, white: [i64; 3], behind: &[ByteRecord]) -> Result<Weights, TableFault>
     requires end { IsTrue (reaches_end run.now) }
@@ -59,18 +60,18 @@ fn closed(run: &Run, white: [i64; 3], behind: &[ByteRecord]) -> Result<Weights, 
     ensure_balance(run, &white, 0)?;
     ensure_balance(run, &white, 1)?;
     ensure_balance(run, &white, 2)?;
-    let end = Place {
+    let end = Cell {
         row: run.row_behind() + 1,
         column: 1,
     };
     end.ensure(behind.is_empty(), TableRule::BadWavelength)?;
     Ok(Weights {
-        places: fold(run.first(), run.triples()),
+        weights: fold(run.first(), run.triples()),
         white,
     })
 }
 
-/// The weights behind the header.
+/// The weights after the header.
 #[tactic(auto, unfolding(crate::specs::WeightFile::weights_from))]
 fn weights_from(alloc: Global, lines: &[ByteRecord]) -> Result<Weights, TableError>
     requires { All (λ r. length (stored_fields r) < 2 ^ 32 - 2) lines.now }
@@ -79,7 +80,7 @@ fn weights_from(alloc: Global, lines: &[ByteRecord]) -> Result<Weights, TableErr
     let mut run = Run::new(alloc);
     for (i, line) in lines.iter().enumerate() {
         let fields = fields_of(alloc, line)?;
-        let end = Place {
+        let end = Cell {
             row: run.row_behind(),
             column: fields.len() as u32,
         };
@@ -90,7 +91,7 @@ fn weights_from(alloc: Global, lines: &[ByteRecord]) -> Result<Weights, TableErr
         }
         run = with_row(run, &fields)?;
     }
-    let missing = Place {
+    let missing = Cell {
         row: run.row_behind(),
         column: 1,
     };
@@ -102,7 +103,7 @@ fn weights_of(alloc: Global, records: &[ByteRecord]) -> Result<Weights, TableErr
     requires { All (λ r. length (stored_fields r) < 2 ^ 32 - 2) records.now }
     ensures { Gives (λ w. w) result (weights_of (map stored_fields records.now)) }
 {
-    let start = Place { row: 1, column: 1 };
+    let start = Cell { row: 1, column: 1 };
     let [header, lines @ ..] = records else {
         return Err(TableError::Fault(start.fault(TableRule::NoHeader)));
     };
@@ -114,15 +115,16 @@ fn weights_of(alloc: Global, records: &[ByteRecord]) -> Result<Weights, TableErr
 
 /// The weights of a file of at most 1,000,000 bytes.
 ///
-/// The first record has four fields, `nm` and any three. Each further record is a wavelength, by 10 nm from 300 to
-/// 400 nm on up to 700 nm or more, at most 830, and a weight of up to 1,000 in size for X, Y and Z. The last is `white`
-/// and three values above 0. A byte order mark and spaces and tabs around a field are let be.
+/// The first record has four fields, `nm` and any three. Each further record is a wavelength and a
+/// weight of up to 1,000 in magnitude for X, Y and Z: the first wavelength lies in 300 to 400 nm,
+/// each further one 10 nm on, and the last in 700 to 830 nm. The last record is `white` and three
+/// values above 0. A byte order mark and spaces and tabs around a field are ignored.
 ///
-/// The error is the first fault with its place, or want of memory.
+/// The error is the first fault with its row and column, or that memory ran out.
 pub fn read_weights(alloc: Global, bytes: &[u8]) -> Result<Weights, TableError>
     requires { length bytes.now ≤ 1000000 }
     ensures exact { Gives (λ w. w) result (weight_table_of bytes.now) }
-    ensures held { IfOk result IsWeighing }
+    ensures held { IfOk result IsWeightTable }
 {
     let records = records_of(alloc, bytes)?;
     weights_of(alloc, &records)

@@ -1,13 +1,14 @@
-//! A loop for each operation. The sum of the results' ends is printed, so that no call can be left out.
+//! A loop for each operation. The sum of the results' ends is printed, so that no call can be left
+//! out.
 ghost use Rattle.std.specs.Prelude.{ℕ, ◌^◌, ◌≤◌};
 
 use crate::pairs::Pair;
-use fix_bounds::{Iv, Scale};
+use fix_bounds::{Iv, Scale, unit};
 use root_bounds::{cbrt_ceil, cbrt_floor, cbrt_iv, sqrt_ceil, sqrt_floor, sqrt_iv};
 
 /// The operations that are timed.
 #[derive(Clone, Copy, Debug)]
-pub enum Operation {
+pub(crate) enum Operation {
     Ends,
     OfRatio,
     Add,
@@ -30,7 +31,7 @@ pub enum Operation {
 }
 
 /// All of them, in the order of the report.
-pub const OPERATIONS: [Operation; 19] = [
+pub(crate) const OPERATIONS: [Operation; 19] = [
     Operation::Ends,
     Operation::OfRatio,
     Operation::Add,
@@ -142,13 +143,13 @@ fn cbrt_interval<S: Scale>(pairs: &[Pair<S>], rounds: u32) -> i128 {
 }
 
 fn sqrt_down<S: Scale>(pairs: &[Pair<S>], rounds: u32) -> i128 {
-    let unit = S::UNIT.unsigned_abs();
-    number_rounds!(pairs, rounds, low, sqrt_floor(low * unit))
+    let parts = u128::from(unit::<S>());
+    number_rounds!(pairs, rounds, low, sqrt_floor(low * parts))
 }
 
 fn sqrt_up<S: Scale>(pairs: &[Pair<S>], rounds: u32) -> i128 {
-    let unit = S::UNIT.unsigned_abs();
-    number_rounds!(pairs, rounds, low, sqrt_ceil(low * unit))
+    let parts = u128::from(unit::<S>());
+    number_rounds!(pairs, rounds, low, sqrt_ceil(low * parts))
 }
 
 fn cbrt_down<S: Scale>(pairs: &[Pair<S>], rounds: u32) -> i128 {
@@ -164,12 +165,12 @@ fn cbrt_up<S: Scale>(pairs: &[Pair<S>], rounds: u32) -> i128 {
 fn unit_squared<S: Scale>() -> u128
     ensures { result ≤ 10 ^ 24 }
 {
-    let unit = S::UNIT.unsigned_abs();
-    unit * unit
+    let parts = u128::from(unit::<S>());
+    parts * parts
 }
 
 /// Calls one operation on each pair, `rounds` times over, and sums the ends of the results.
-pub fn run<S: Scale>(operation: Operation, pairs: &[Pair<S>], rounds: u32) -> i128 {
+pub(crate) fn run<S: Scale>(operation: Operation, pairs: &[Pair<S>], rounds: u32) -> i128 {
     match operation {
         Operation::Ends => ends(pairs, rounds),
         Operation::OfRatio => of_ratio(pairs, rounds),

@@ -1,5 +1,5 @@
-//! Times the operations on intervals at both scales: `speed ROUNDS` prints, for each operation, the nanoseconds that a
-//! thousand calls take at the base scale and at the quick one.
+//! Times the operations on intervals at both scales: `speed ROUNDS` prints, for each operation, the
+//! nanoseconds that a thousand calls take at the base scale and at the quick one.
 #![tactic(auto)]
 
 mod loops;

@@ -1,7 +1,7 @@
 ghost use Rattle.std.specs.Prelude.{◌≡◌, ℕ, ℤ, pos, ◌*◌, ◌^◌, ◌≤◌, ◌<ℤ◌, ◌≤ℤ◌};
 ghost use Rattle.interval_specs.specs.Ranges.{UpTo};
 
-use fix_bounds::{Iv, Scale};
+use fix_bounds::{Iv, Scale, unit};
 use std::alloc::{AllocError, Global};
 
 /// How many pairs are drawn.
@@ -9,11 +9,11 @@ const COUNT: u32 = 1000;
 
 /// Two intervals above 0 and of a few units at most, for the two sides of an operation.
 #[derive(Drop)]
-pub struct Pair<S: Scale> {
-    pub first: Iv<S>,
-    pub second: Iv<S>,
+pub(crate) struct Pair<S: Scale> {
+    pub(crate) first: Iv<S>,
+    pub(crate) second: Iv<S>,
     ghost first_range: { UpTo (2 ^ 41) first },
-    ghost first_size: { first.hi ≤ℤ pos (10 * S.unit) },
+    ghost first_magnitude: { first.hi ≤ℤ pos (10 * S.unit) },
     ghost second_range: { UpTo (2 ^ 41) second },
     ghost divisor: { pos 0 <ℤ second.lo },
 }
@@ -21,11 +21,10 @@ pub struct Pair<S: Scale> {
 /// An interval from the bits of `state`: its lower end between 0 and 1, and up to seven parts wide.
 fn interval<S: Scale>(state: u64) -> Iv<S>
     ensures range { UpTo (2 ^ 41) result }
-    ensures size { result.hi ≤ℤ pos (10 * S.unit) }
+    ensures magnitude { result.hi ≤ℤ pos (10 * S.unit) }
     ensures positive { pos 0 <ℤ result.lo }
 {
-    let unit = S::UNIT as u64;
-    let low = 1 + (state / 0x100_0000) % unit;
+    let low = 1 + (state / 0x100_0000) % unit::<S>();
     let high = low + state % 8;
     Iv::of_ends(i128::from(low), i128::from(high))
 }
@@ -38,7 +37,7 @@ fn next(state: u64) -> u64 {
 }
 
 /// The pairs that all operations are timed on.
-pub fn drawn<S: Scale>(alloc: Global) -> Result<Vec<Pair<S>>, AllocError> {
+pub(crate) fn drawn<S: Scale>(alloc: Global) -> Result<Vec<Pair<S>>, AllocError> {
     let mut pairs = Vec::new(alloc);
     let mut state = 1;
     for _ in 0..COUNT {

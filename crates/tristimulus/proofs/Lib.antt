@@ -1,3 +1,2 @@
-pub mod ByZero
-pub mod Enclosing
-pub mod Sums
+mod Sums
+pub mod RatioLaws

@@ -1,25 +1,24 @@
--- The law of the ratios: they keep enclosing where the scale grows from n to m * n and the spectrum narrows.
-use Rattle.std.specs.Prelude.{◌*◌, ℕ, List, [], ◌∷◌}
+-- The laws of the ratios: they keep enclosing where the scale grows from n to m * n and the spectrum narrows, and lie in their range.
+use Rattle.std.specs.Prelude.{◌*◌, ℕ, List, All}
 use Rattle.interval_specs.specs.Ends.{Ends}
-use Rattle.interval_specs.specs.Encloses.{Encloses}
-use Rattle.spectral_tables.specs.Weighing.{Weighing}
-use Rattle.tristimulus.specs.Ratios.{RatioEnds, ratios_at}
-
--- each place of a spectrum encloses that of a finer one
-abbrev pub EnclosesPlaces : ℕ → List Ends → List Ends → Type 0
-EnclosesPlaces m [] [] = Unit {0}
-EnclosesPlaces m [] (b ∷ bs) = ⊥
-EnclosesPlaces m (a ∷ as') [] = ⊥
-EnclosesPlaces m (a ∷ as') (b ∷ bs) = Encloses m a b × EnclosesPlaces m as' bs
-
--- each ratio encloses the finer one
-pub record EnclosesRatios (m : ℕ) (a b : RatioEnds) : Type 0 where
-  pub x : Encloses m a.x b.x
-  pub y : Encloses m a.y b.y
-  pub z : Encloses m a.z b.z
+use Rattle.interval_specs.specs.Ranges.{UpTo}
+use Rattle.spectral_tables.specs.Laws.{EnclosesWaves}
+use Rattle.spectral_tables.specs.WeightTable.{WeightTable, IsWeightTable}
+use Rattle.fix_bounds.specs.Ratios.{EnclosesRatios, RatioEnds}
+use Rattle.tristimulus.specs.Ratios.{ratios_at}
 
 -- of the ratios, with weights of either sign and any white
 abbrev pub RatiosEnclose : Type 0
 RatiosEnclose =
-    (n m : ℕ) (spectrum finer : List Ends) (w : Weighing) → EnclosesPlaces m spectrum finer
+    (n m : ℕ) (spectrum finer : List Ends) (w : WeightTable) → EnclosesWaves m spectrum finer
     → EnclosesRatios m (ratios_at n spectrum w) (ratios_at (m * n) finer w)
+
+-- ratios from 0 to 3 at scale n
+pub record AreRatios (n : ℕ) (r : RatioEnds) : Type 0 where
+  pub x : UpTo (3 * n) r.x
+  pub y : UpTo (3 * n) r.y
+  pub z : UpTo (3 * n) r.z
+
+-- of the ratios of reflectances from 0 to 1, under weights as a file gives them
+abbrev pub RatiosInRange : Type 0
+RatiosInRange = (n : ℕ) (spectrum : List Ends) (w : WeightTable) → IsWeightTable w → All (UpTo n) spectrum → AreRatios n (ratios_at n spectrum w)

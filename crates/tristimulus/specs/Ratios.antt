@@ -1,8 +1,9 @@
 -- Tristimulus ratios (ASTM E308): sums of weights times reflectances, each over the value of white.
 use Rattle.std.specs.Prelude.{ℕ, pos, List, [], ◌∷◌, unsigned_abs}
 use Rattle.interval_specs.specs.Ends.{Ends}
+use Rattle.fix_bounds.specs.Ratios.{RatioEnds}
 use Rattle.interval_specs.specs.Operations.{sum_of, multiple_of, fraction_of, cut_low_at}
-use Rattle.spectral_tables.specs.Weighing.{Triple, Weighing, at_column}
+use Rattle.spectral_tables.specs.WeightTable.{Triple, WeightTable, at_column}
 
 -- an interval of no width at 0
 abbrev pub nothing : Ends
@@ -12,19 +13,13 @@ nothing = record { lo = pos 0; hi = pos 0 }
 unfoldable pub weighted_sum : ℕ → List Triple → List Ends → Ends
 weighted_sum column [] spectrum = nothing
 weighted_sum column (triple ∷ triples) [] = nothing
-weighted_sum column (triple ∷ triples) (place ∷ places) = sum_of (multiple_of (at_column column triple) place) (weighted_sum column triples places)
+weighted_sum column (triple ∷ triples) (reflectance ∷ rest) = sum_of (multiple_of (at_column column triple) reflectance) (weighted_sum column triples rest)
 
 -- a column's ratio to white at scale n, where a sum below 0 is taken as 0
-unfoldable pub ratio_at_column : ℕ → ℕ → List Ends → Weighing → Ends
+unfoldable pub ratio_at_column : ℕ → ℕ → List Ends → WeightTable → Ends
 ratio_at_column n column spectrum w =
     cut_low_at n (pos 0) (fraction_of 1 (unsigned_abs (at_column column w.white)) (weighted_sum column w.weights spectrum))
 
--- X/Xn, Y/Yn and Z/Zn
-pub record RatioEnds : Type 0 where
-  pub x : Ends
-  pub y : Ends
-  pub z : Ends
-
 -- the three ratios of a spectrum at scale n
-unfoldable pub ratios_at : ℕ → List Ends → Weighing → RatioEnds
+unfoldable pub ratios_at : ℕ → List Ends → WeightTable → RatioEnds
 ratios_at n spectrum w = record { x = ratio_at_column n 0 spectrum w; y = ratio_at_column n 1 spectrum w; z = ratio_at_column n 2 spectrum w }

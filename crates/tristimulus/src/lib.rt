@@ -2,9 +2,6 @@
 #![tactic(auto)]
 
 pub mod laws;
-mod weighing;
+mod white_ratios;
 
-pub use weighing::ratios;
-
-#[cfg(test)]
-mod tests;
+pub use white_ratios::ratios;

@@ -1,8 +1,9 @@
-ghost use Rattle.std.specs.Prelude.{◌≡◌, ◌≤◌, ◌+◌, ℕ, List, [], Some, option_map, length, IfOk, IsOk, IsSome, OnOk, OnErr, is_err};
+ghost use Rattle.std.specs.Prelude.{◌≡◌, ◌≤◌, ◌+◌, ℕ, List, Some, length, IfOk, IsOk, IsSome, IsTrue, is_err};
 ghost use Rattle.std.specs.Option.{ForSome};
-ghost use Rattle.shelf_io.specs.Contents.{AddsFrontTo, AddsTo, put_bytes};
-ghost use Rattle.shelf_io.specs.Counts.{CountsOf, KeepsWell, Rose, WorksFor};
-ghost use Rattle.shelf_io.specs.MemShelf.{ReadsWell, WritesWell, append_after, append_fails, create_after, create_fails, read_after, read_fails, read_size, shelf_contents, shelf_reads, shelf_writes};
+ghost use Rattle.shelf_io.specs.Changes.{HandsOut, OnlyReads, OnlyWrites, given};
+ghost use Rattle.shelf_io.specs.Contents.{Adds, Creates};
+ghost use Rattle.shelf_io.specs.Counts.{CountsFailure};
+ghost use Rattle.shelf_io.specs.MemShelf.{append_after, append_fails, create_after, create_fails, promises_reads, promises_writes, read_after, read_fails, read_size, shelf_contents, shelf_reads, shelf_view, shelf_writes};
 ghost use Rattle.shelf_io.specs.Reading.{Reads};
 
 use super::{MemShelf, place_of};
@@ -10,15 +11,7 @@ use crate::failed::Failed;
 use crate::shelf::Shelf;
 
 impl Shelf for MemShelf {
-    ghost contents = { λ s. Some (shelf_contents s) };
-
-    ghost read_count = { shelf_reads };
-
-    ghost write_count = { shelf_writes };
-
-    ghost reads_well = { ReadsWell };
-
-    ghost writes_well = { WritesWell };
+    ghost view = { shelf_view };
 
     fn read_faults(&self, name: &str) -> u64 {
         match place_of(&self.files, name) {
@@ -27,30 +20,22 @@ impl Shelf for MemShelf {
         }
     }
 
-    fn read_at(&mut self, name: &str, place: u64, into: &mut [u8]) -> Result<usize, Failed>
+    fn read_at(&mut self, name: &str, offset: u64, into: &mut [u8]) -> Result<usize, Failed>
         ensures exact { is_err result ≡ read_fails self.old name.now }
         ensures size { IfOk result
-            (λ count. count ≡ read_size self.old name.now place (length into.new)) }
-        ensures after { self.new ≡ read_after self.old name.now }
+            (λ count. count ≡ read_size self.old name.now offset (length into.new)) }
+        ensures after { self.new ≡ read_after self.old name.now offset (length into.new) }
 
-        ensures same { Some (shelf_contents self.new) ≡ Some (shelf_contents self.old) }
         ensures most { IfOk result (λ count. count ≤ length into.new) }
-        ensures bytes { Reads (Some (shelf_contents self.old)) name.now place result into.new }
-
-        ensures counts { CountsOf (Some (shelf_contents self.old)) name.now
-            (shelf_reads self.old) (shelf_reads self.new) }
-        ensures other_kind { (n : List ℕ) → shelf_writes self.new n ≡ shelf_writes self.old n }
-        ensures failed { OnErr result
-            (Rose (shelf_reads self.old name.now) (shelf_reads self.new name.now)) }
-
-        ensures works { ReadsWell self.old name.now → IsOk result }
-        ensures keeps_reading { KeepsWell (ReadsWell self.old) (ReadsWell self.new)
-            (shelf_reads self.old) (shelf_reads self.new) }
-        ensures keeps_writing { (bytes : ℕ) → KeepsWell
-            (λ n. WritesWell self.old n bytes) (λ n. WritesWell self.new n bytes)
-            (shelf_writes self.old) (shelf_writes self.new) }
+        ensures bytes { Reads (Some (shelf_contents self.old)) name.now offset result into.new }
+        ensures only { OnlyReads (λ n. n ≡ name.now) (shelf_view self.old) (shelf_view self.new) }
+        ensures handed { HandsOut name.now (given result)
+            (shelf_view self.old) (shelf_view self.new) }
+        ensures counted { CountsFailure (is_err result)
+            (shelf_reads self.old name.now) (shelf_reads self.new name.now) }
+        ensures promised { IsTrue (promises_reads self.old name.now) → IsOk result }
     {
-        self.read(name, place, into)
+        self.read(name, offset, into)
     }
 
     fn write_faults(&self, name: &str) -> u64 {
@@ -67,21 +52,13 @@ impl Shelf for MemShelf {
         ensures exact { is_err result ≡ create_fails self.old name.now }
         ensures after { self.new ≡ create_after self.old name.now }
 
-        ensures ok { OnOk result (Some (shelf_contents self.new)
-            ≡ option_map (put_bytes name.now []) (Some (shelf_contents self.old))) }
-        ensures err { OnErr result
-            (Some (shelf_contents self.new) ≡ Some (shelf_contents self.old)) }
-
-        ensures counts { CountsOf (Some (shelf_contents self.old)) name.now
-            (shelf_writes self.old) (shelf_writes self.new) }
-        ensures other_kind { (n : List ℕ) → shelf_reads self.new n ≡ shelf_reads self.old n }
-        ensures failed { OnErr result
-            (Rose (shelf_writes self.old name.now) (shelf_writes self.new name.now)) }
-
-        ensures works { WorksFor (WritesWell self.old name.now) (WritesWell self.new name.now)
-            (shelf_writes self.old name.now) (shelf_writes self.new name.now) result }
-        ensures keeps_reading { KeepsWell (ReadsWell self.old) (ReadsWell self.new)
-            (shelf_reads self.old) (shelf_reads self.new) }
+        ensures contents { Creates name.now result
+            (Some (shelf_contents self.old)) (Some (shelf_contents self.new)) }
+        ensures only { OnlyWrites name.now 0 (shelf_view self.old) (shelf_view self.new) }
+        ensures counted { CountsFailure (is_err result)
+            (shelf_writes self.old name.now) (shelf_writes self.new name.now) }
+        ensures promised { (bytes : ℕ) →
+            IsTrue (promises_writes self.old name.now bytes) → IsOk result }
     {
         self.make(name)
     }
@@ -92,25 +69,18 @@ impl Shelf for MemShelf {
         ensures exact { is_err result ≡ append_fails self.old piece.now }
         ensures after { self.new ≡ append_after self.old name.now piece.now }
 
-        ensures ok { OnOk result (AddsTo name.now piece.now
-            (Some (shelf_contents self.old)) (Some (shelf_contents self.new))) }
-        ensures err { OnErr result (AddsFrontTo name.now piece.now
-            (Some (shelf_contents self.old)) (Some (shelf_contents self.new))) }
-
-        ensures counts { CountsOf (Some (shelf_contents self.old)) name.now
-            (shelf_writes self.old) (shelf_writes self.new) }
-        ensures other_kind { (n : List ℕ) → shelf_reads self.new n ≡ shelf_reads self.old n }
-        ensures failed { OnErr result
-            (Rose (shelf_writes self.old name.now) (shelf_writes self.new name.now)) }
-
-        ensures works { (more : ℕ) →
-            WritesWell self.old name.now (length piece.now + more) → IsOk result }
-        ensures keeps_writing { (more : ℕ) → KeepsWell
-            (λ n. WritesWell self.old n (length piece.now + more))
-            (λ n. WritesWell self.new n more)
-            (shelf_writes self.old) (shelf_writes self.new) }
-        ensures keeps_reading { KeepsWell (ReadsWell self.old) (ReadsWell self.new)
-            (shelf_reads self.old) (shelf_reads self.new) }
+        ensures contents { Adds name.now piece.now result
+            (Some (shelf_contents self.old)) (Some (shelf_contents self.new)) }
+        ensures only { OnlyWrites name.now (length piece.now)
+            (shelf_view self.old) (shelf_view self.new) }
+        ensures counted { CountsFailure (is_err result)
+            (shelf_writes self.old name.now) (shelf_writes self.new name.now) }
+        ensures promised { (more : ℕ) →
+            IsTrue (promises_writes self.old name.now (length piece.now + more)) → IsOk result }
+        ensures kept { (n : List ℕ) (more : ℕ) →
+            IsTrue (promises_writes self.old n (length piece.now + more)) →
+            IsTrue (promises_writes self.new n more)
+            × (shelf_writes self.new n ≡ shelf_writes self.old n) }
     {
         self.add(name, piece)
     }

@@ -2,7 +2,7 @@ ghost use Rattle.std.specs.Prelude.{◌≡◌, ◌≤◌, length, IsSome, is_err
 ghost use Rattle.shelf_io.specs.MemShelf.{append_after, append_fails, create_after, create_fails, shelf_contents};
 
 use super::{MemShelf, place_of};
-use crate::calls::{fitting, is_told};
+use crate::calls::{fitting, is_scheduled};
 use crate::failed::Failed;
 
 impl MemShelf {
@@ -12,12 +12,12 @@ impl MemShelf {
         ensures exact { is_err result ≡ create_fails self.old name.now }
         ensures after { self.new ≡ create_after self.old name.now }
     {
-        let told = is_told(&self.failing, self.calls);
+        let scheduled = is_scheduled(&self.failing, self.calls);
         self.calls = self.calls.saturating_add(1);
         match place_of(&self.files, name) {
             Some(at) => {
                 let file = &mut self.files[at];
-                if told {
+                if scheduled {
                     file.fail_write();
                     return Err(Failed);
                 }
@@ -25,7 +25,7 @@ impl MemShelf {
                 Ok(())
             }
             None => {
-                if told || self.spare.is_empty() {
+                if scheduled || self.spare.is_empty() {
                     self.shared_writes = self.shared_writes.saturating_add(1);
                     return Err(Failed);
                 }
@@ -43,9 +43,9 @@ impl MemShelf {
         ensures exact { is_err result ≡ append_fails self.old piece.now }
         ensures after { self.new ≡ append_after self.old name.now piece.now }
     {
-        let told = is_told(&self.failing, self.calls);
-        let refused = told || self.room < piece.len();
-        let size = fitting(told, self.room, piece.len());
+        let scheduled = is_scheduled(&self.failing, self.calls);
+        let refused = scheduled || self.room < piece.len();
+        let size = fitting(scheduled, self.room, piece.len());
         self.calls = self.calls.saturating_add(1);
         let at = place_of(&self.files, name).unwrap();
         let file = &mut self.files[at];

@@ -2,7 +2,7 @@ use Rattle.interval_specs.proofs.Held.{held_by, is_ends}
 use Rattle.interval_specs.proofs.Ranges.{carry_up_to}
 use Rattle.fix_bounds.proofs.Passed.{read}
 use Rattle.cmc_specs.specs.Cmc.{bracket}
-use Rattle.cmc_specs.proofs.Sizes.{bracket_up_to}
+use Rattle.cmc_specs.proofs.Ranges.{bracket_up_to}
 use Rattle.cmc_bounds.proofs.AngleCalls.{bracket_high, bracket_low, bracket_room}
 use Rattle.cmc_bounds.proofs.Calls.{held_unit}
 use Rattle.cmc_bounds.proofs.angles.bracket.Goals as goal
@@ -10,8 +10,8 @@ use Rattle.cmc_bounds.proofs.angles.bracket.Goals as goal
 pub of_ratio-below-requires-clause-room : goal.of_ratio-below-requires-clause-room
 of_ratio-below-requires-clause-room g c = bracket_room g.S.Scale.unit c.args.low _ (read _ _ c.from.type_inv c.from.ensures) c.requires g.S.Scale.most
 
-pub of_ratio-below-requires-clause-size : goal.of_ratio-below-requires-clause-size
-of_ratio-below-requires-clause-size g c = bracket_room g.S.Scale.unit c.args.low _ (read _ _ c.from.type_inv c.from.ensures) c.requires g.S.Scale.most
+pub of_ratio-below-requires-clause-magnitude : goal.of_ratio-below-requires-clause-magnitude
+of_ratio-below-requires-clause-magnitude g c = bracket_room g.S.Scale.unit c.args.low _ (read _ _ c.from.type_inv c.from.ensures) c.requires g.S.Scale.most
 
 pub of_ends-requires : goal.of_ends-requires
 of_ends-requires g c =

@@ -1,8 +1,8 @@
 use Rattle.std.proofs.Common.{◌*◌, ◌∙◌, ap}
 use Rattle.interval_specs.specs.Operations.{product_at, sum_of}
-use Rattle.interval_specs.proofs.Ranges.{carry_sized}
+use Rattle.interval_specs.proofs.Ranges.{carry_magnitude}
 use Rattle.cmc_specs.specs.Cmc.{bracket}
-use Rattle.cmc_specs.proofs.Sizes.{bracket_up_to, turned_sized}
+use Rattle.cmc_specs.proofs.Ranges.{bracket_up_to, turned_magnitude}
 use Rattle.cmc_bounds.proofs.AngleCalls.{parts_room}
 use Rattle.cmc_bounds.proofs.Calls.{some_units}
 use Rattle.cmc_bounds.proofs.angles.turned.Goals as goal
@@ -22,5 +22,5 @@ returns-clause-is g c =
 pub returns-clause-range : goal.returns-clause-range
 returns-clause-range g c =
     let n = g.S.Scale.unit in
-    carry_sized (2000 * n) c.add.result (sum_of (product_at n c.args.a (bracket n c.args.cos)) (product_at n c.args.b (bracket n c.args.sin))) (returns-clause-is g c)
-    (turned_sized n c.args.a (bracket n c.args.cos) c.args.b (bracket n c.args.sin) (some_units n g.S.Scale.least) c.requires.a (bracket_up_to n c.args.cos c.requires.cos) c.requires.b (bracket_up_to n c.args.sin c.requires.sin))
+    carry_magnitude (2000 * n) c.add.result (sum_of (product_at n c.args.a (bracket n c.args.cos)) (product_at n c.args.b (bracket n c.args.sin))) (returns-clause-is g c)
+    (turned_magnitude n c.args.a (bracket n c.args.cos) c.args.b (bracket n c.args.sin) (some_units n g.S.Scale.least) c.requires.a (bracket_up_to n c.args.cos c.requires.cos) c.requires.b (bracket_up_to n c.args.sin c.requires.sin))

@@ -2,8 +2,8 @@ use Rattle.std.proofs.Common.{◌*◌, ◌^◌, ◌∙◌, lit≤}
 use Rattle.interval_specs.specs.Operations.{square_at, sum_of}
 use Rattle.interval_specs.proofs.Ranges.{carry_up_to}
 use Rattle.cmc_specs.specs.Cmc.{chroma_square}
-use Rattle.cmc_specs.proofs.TermSizes.{squares_up_to}
-use Rattle.cmc_bounds.proofs.Calls.{apart_square, some_units, square_room, sum_room, up_to_size}
+use Rattle.cmc_specs.proofs.Ranges.{squares_up_to}
+use Rattle.cmc_bounds.proofs.Calls.{delta_square, some_units, square_room, sum_room, up_to_magnitude}
 use Rattle.cmc_bounds.proofs.TermCalls.{square_known}
 use Rattle.cmc_bounds.proofs.chroma.chroma_square.Goals as goal
 
@@ -17,8 +17,8 @@ pub add-requires : goal.add-requires
 add-requires g c =
     let some = some_units g.S.Scale.unit g.S.Scale.least in
     sum_room g.S.Scale.unit (4 * 10 ^ 6) (4 * 10 ^ 6) c.square-first.result c.square-second.result g.S.Scale.most (lit≤ tt) (lit≤ tt)
-    (up_to_size _ c.square-first.result (apart_square g.S.Scale.unit c.args.a c.square-first.result some c.requires.a c.square-first.ensures.is))
-    (up_to_size _ c.square-second.result (apart_square g.S.Scale.unit c.args.b c.square-second.result some c.requires.b c.square-second.ensures.is))
+    (up_to_magnitude _ c.square-first.result (delta_square g.S.Scale.unit c.args.a c.square-first.result some c.requires.a c.square-first.ensures.is))
+    (up_to_magnitude _ c.square-second.result (delta_square g.S.Scale.unit c.args.b c.square-second.result some c.requires.b c.square-second.ensures.is))
 
 pub returns-clause-is : goal.returns-clause-is
 unfolding chroma_square

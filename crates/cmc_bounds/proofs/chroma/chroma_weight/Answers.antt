@@ -1,10 +1,9 @@
 use Rattle.std.proofs.Common.{◌*◌, ◌∙◌, subst, sym}
 use Rattle.interval_specs.specs.Operations.{sum_of}
 use Rattle.interval_specs.proofs.Ranges.{carry_up_to}
-use Rattle.cmc_specs.specs.AtLeast.{AtLeast}
+use Rattle.interval_specs.specs.Ranges.{AtLeast}
 use Rattle.cmc_specs.specs.Cmc.{chroma_weight}
-use Rattle.cmc_specs.proofs.Ranges.{chroma_weight_at_least}
-use Rattle.cmc_specs.proofs.Sizes.{chroma_weight_up_to}
+use Rattle.cmc_specs.proofs.Ranges.{chroma_weight_at_least, chroma_weight_up_to}
 use Rattle.cmc_bounds.proofs.Calls.{some_units, weight_room}
 use Rattle.cmc_bounds.proofs.chroma.chroma_weight.Goals as goal
 

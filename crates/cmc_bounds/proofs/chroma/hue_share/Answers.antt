@@ -2,12 +2,12 @@ use Rattle.std.proofs.Common.{◌*◌, ◌^◌, ◌∙◌, ap, lit≤}
 use Rattle.interval_specs.specs.Roots.{sqrt_at}
 use Rattle.interval_specs.proofs.Ranges.{carry_up_to}
 use Rattle.cmc_specs.specs.Cmc.{fourth_power_share, hue_share}
-use Rattle.cmc_specs.proofs.UnitRanges.{hue_share_up_to}
-use Rattle.cmc_bounds.proofs.Calls.{fourth_power, some_units, square_room, up_to_size}
+use Rattle.cmc_specs.proofs.Ranges.{hue_share_up_to}
+use Rattle.cmc_bounds.proofs.Calls.{fourth_power, some_units, square_room, up_to_magnitude}
 use Rattle.cmc_bounds.proofs.chroma.hue_share.Goals as goal
 
 pub square-requires : goal.square-requires
-square-requires g c = square_room g.S.Scale.unit (2 * 10 ^ 6) c.args.p1 g.S.Scale.most (lit≤ tt) (up_to_size _ c.args.p1 c.requires)
+square-requires g c = square_room g.S.Scale.unit (2 * 10 ^ 6) c.args.p1 g.S.Scale.most (lit≤ tt) (up_to_magnitude _ c.args.p1 c.requires)
 
 pub fourth_power_share-requires : goal.fourth_power_share-requires
 fourth_power_share-requires g c = fourth_power g.S.Scale.unit c.args.p1 c.square.result (some_units g.S.Scale.unit g.S.Scale.least) c.requires c.square.ensures.is

@@ -1,16 +1,16 @@
 use Rattle.std.proofs.Common.{◌*◌, ◌^◌, ◌∙◌, lit<, lit≤}
 use Rattle.interval_specs.specs.Operations.{quotient_at}
 use Rattle.interval_specs.proofs.Ranges.{carry_up_to}
-use Rattle.cmc_specs.proofs.TermSizes.{hue_term_up_to}
-use Rattle.cmc_bounds.proofs.Calls.{above_0, far_from_0, quotient_room, up_to_size}
+use Rattle.cmc_specs.proofs.Ranges.{hue_term_up_to}
+use Rattle.cmc_bounds.proofs.Calls.{above_0, far_from_0, quotient_room, up_to_magnitude}
 use Rattle.cmc_bounds.proofs.difference.hue_term.Goals as goal
 
 pub div-requires-clause-positive : goal.div-requires-clause-positive
 div-requires-clause-positive g c = above_0 48 1000 g.S.Scale.unit c.hue_divisor.result g.S.Scale.least (lit< tt) c.hue_divisor.ensures.least
 
-pub div-requires-clause-size : goal.div-requires-clause-size
-div-requires-clause-size g c =
-    quotient_room g.S.Scale.unit (8 * 10 ^ 6) c.args.square c.hue_divisor.result g.S.Scale.most (lit≤ tt) (up_to_size _ c.args.square c.requires)
+pub div-requires-clause-magnitude : goal.div-requires-clause-magnitude
+div-requires-clause-magnitude g c =
+    quotient_room g.S.Scale.unit (8 * 10 ^ 6) c.args.square c.hue_divisor.result g.S.Scale.most (lit≤ tt) (up_to_magnitude _ c.args.square c.requires)
     (far_from_0 48 1000 g.S.Scale.unit c.hue_divisor.result g.S.Scale.least (lit< tt) (lit≤ tt) c.hue_divisor.ensures.least)
 
 pub returns-clause-is : goal.returns-clause-is

@@ -1,5 +1,5 @@
 use Rattle.std.proofs.Common.{◌∙◌, subst, sym}
-use Rattle.cmc_specs.specs.AtLeast.{AtLeast}
+use Rattle.interval_specs.specs.Ranges.{AtLeast}
 use Rattle.cmc_specs.specs.Cmc.{first_form, hue_factor, hue_sum_15, hue_sum_16, is_inside, is_outside, second_form}
 use Rattle.cmc_specs.proofs.Ranges.{hue_factor_at_least}
 use Rattle.cmc_bounds.proofs.Chosen.{both_chosen, first_chosen, hull_within, second_chosen}

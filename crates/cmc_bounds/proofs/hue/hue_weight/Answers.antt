@@ -1,21 +1,20 @@
 use Rattle.std.proofs.Common.{◌*◌, lit≤, sym, subst}
 use Rattle.interval_specs.proofs.Ranges.{carry_up_to}
-use Rattle.cmc_specs.specs.AtLeast.{AtLeast}
+use Rattle.interval_specs.specs.Ranges.{AtLeast}
 use Rattle.cmc_specs.specs.Cmc.{hue_weight}
-use Rattle.cmc_specs.proofs.Ranges.{hue_weight_at_least}
-use Rattle.cmc_specs.proofs.Sizes.{hue_weight_up_to}
-use Rattle.cmc_bounds.proofs.Calls.{product_room, unit_size, units_product, some_units, up_to_size}
+use Rattle.cmc_specs.proofs.Ranges.{hue_weight_at_least, hue_weight_up_to}
+use Rattle.cmc_bounds.proofs.Calls.{product_room, unit_magnitude, units_product, some_units, up_to_magnitude}
 use Rattle.cmc_bounds.proofs.HueCalls.{weight_is}
 use Rattle.cmc_bounds.proofs.hue.hue_weight.Goals as goal
 
 pub mul-taken-requires : goal.mul-taken-requires
-mul-taken-requires g c = product_room g.S.Scale.unit 1 1 c.args.f c.rest.result g.S.Scale.most (lit≤ tt) (lit≤ tt) (unit_size g.S.Scale.unit c.args.f c.requires.f) (unit_size g.S.Scale.unit c.rest.result c.rest.ensures.range)
+mul-taken-requires g c = product_room g.S.Scale.unit 1 1 c.args.f c.rest.result g.S.Scale.most (lit≤ tt) (lit≤ tt) (unit_magnitude g.S.Scale.unit c.args.f c.requires.f) (unit_magnitude g.S.Scale.unit c.rest.result c.rest.ensures.range)
 
 pub rest-requires-2 : goal.rest-requires-2
 rest-requires-2 g c = units_product g.S.Scale.unit c.args.f c.rest.result c.mul-taken.result (some_units g.S.Scale.unit g.S.Scale.least) c.requires.f c.rest.ensures.range c.mul-taken.ensures.is
 
 pub mul-requires : goal.mul-requires
-mul-requires g c = product_room g.S.Scale.unit 6 1 c.args.sc c.rest-2.result g.S.Scale.most (lit≤ tt) (lit≤ tt) (up_to_size _ c.args.sc c.requires.sc) (unit_size g.S.Scale.unit c.rest-2.result c.rest-2.ensures.range)
+mul-requires g c = product_room g.S.Scale.unit 6 1 c.args.sc c.rest-2.result g.S.Scale.most (lit≤ tt) (lit≤ tt) (up_to_magnitude _ c.args.sc c.requires.sc) (unit_magnitude g.S.Scale.unit c.rest-2.result c.rest-2.ensures.range)
 
 pub returns-clause-is : goal.returns-clause-is
 returns-clause-is g c =

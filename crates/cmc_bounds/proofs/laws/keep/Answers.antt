@@ -1,4 +1,4 @@
-use Rattle.cmc_specs.proofs.StandardLaw.{standard_encloses}
+use Rattle.cmc_specs.proofs.Law.{standard_encloses}
 use Rattle.cmc_bounds.proofs.laws.keep.Goals as goal
 
 pub returns : goal.returns

@@ -1,9 +1,8 @@
 use Rattle.std.proofs.Common.{◌*◌, ◌∙◌, subst, sym}
 use Rattle.interval_specs.proofs.Ranges.{carry_up_to}
-use Rattle.cmc_specs.specs.AtLeast.{AtLeast}
+use Rattle.interval_specs.specs.Ranges.{AtLeast}
 use Rattle.cmc_specs.specs.Cmc.{high_weight, is_dark, is_light, lightness_weight, low_weight}
-use Rattle.cmc_specs.proofs.Ranges.{lightness_weight_at_least}
-use Rattle.cmc_specs.proofs.Sizes.{lightness_weight_up_to}
+use Rattle.cmc_specs.proofs.Ranges.{lightness_weight_at_least, lightness_weight_up_to}
 use Rattle.cmc_bounds.proofs.Calls.{some_units}
 use Rattle.cmc_bounds.proofs.Chosen.{both_chosen, first_chosen, second_chosen}
 use Rattle.cmc_bounds.proofs.lightness.lightness_weight.Goals as goal

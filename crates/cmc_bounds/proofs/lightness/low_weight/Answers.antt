@@ -1,7 +1,7 @@
 use Rattle.interval_specs.proofs.Ranges.{carry_up_to}
 use Rattle.std.proofs.Common.{◌*◌}
 use Rattle.cmc_specs.specs.Cmc.{low_weight}
-use Rattle.cmc_specs.proofs.Sizes.{low_weight_up_to}
+use Rattle.cmc_specs.proofs.Ranges.{low_weight_up_to}
 use Rattle.cmc_bounds.proofs.lightness.low_weight.Goals as goal
 
 pub returns-clause-range : goal.returns-clause-range

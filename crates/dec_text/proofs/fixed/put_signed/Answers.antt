@@ -10,8 +10,8 @@ use Rattle.dec_text.proofs.fixed.put_signed.Goals.{then-value-lt0, else-value-lt
 pub returns-clause-text : goal.returns-clause-text
 returns-clause-text g c =
     let read = to_z-of_z w128 c.args.value c.ranges.value in
-    let size = c.unsigned_abs.ensures.value ∙ ap unsigned_abs read in
+    let magnitude = c.unsigned_abs.ensures.value ∙ ap unsigned_abs read in
     elim c.if-value-lt0.branch [
-      | then-value-lt0 w ↦ text_below c.args.places c.unsigned_abs.result c.args.value c.put_unsigned.new.into.items w.push.new.self.items c.args.into.now.items (ap (λ z. lt_z z (pos 0)) (sym read) ∙ w.if-value-lt0.true) size (c.put_unsigned.ensures.text ∙ ap (λ a. a.items ++ unsigned_text c.args.places c.unsigned_abs.result) w.into-is) w.push.ensures.items
-      | else-value-lt0 w ↦ text_above c.args.places c.unsigned_abs.result c.args.value c.put_unsigned.new.into.items c.args.into.now.items (ap (λ z. lt_z z (pos 0)) (sym read) ∙ w.if-value-lt0.false) size (c.put_unsigned.ensures.text ∙ ap (λ a. a.items ++ unsigned_text c.args.places c.unsigned_abs.result) w.into-is)
+      | then-value-lt0 w ↦ text_below c.args.decimals c.unsigned_abs.result c.args.value c.put_unsigned.new.into.items w.push.new.self.items c.args.into.now.items (ap (λ z. lt_z z (pos 0)) (sym read) ∙ w.if-value-lt0.true) magnitude (c.put_unsigned.ensures.text ∙ ap (λ a. a.items ++ unsigned_text c.args.decimals c.unsigned_abs.result) w.into-is) w.push.ensures.items
+      | else-value-lt0 w ↦ text_above c.args.decimals c.unsigned_abs.result c.args.value c.put_unsigned.new.into.items c.args.into.now.items (ap (λ z. lt_z z (pos 0)) (sym read) ∙ w.if-value-lt0.false) magnitude (c.put_unsigned.ensures.text ∙ ap (λ a. a.items ++ unsigned_text c.args.decimals c.unsigned_abs.result) w.into-is)
     ]

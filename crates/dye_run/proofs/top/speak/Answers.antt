@@ -1,23 +1,22 @@
-use Rattle.std.proofs.Common.{◌∙◌, refl, subst, inl, inr, append-nil}
-use Rattle.dye_run.specs.Answers.{only}
-use Rattle.dye_run.specs.Endings.{Ended, unreadable, world_of}
-use Rattle.dye_run.specs.Texts.{usage_text}
-use Rattle.dye_run.proofs.Ends.{ended_by, unreadable_joined}
+use Rattle.std.proofs.Common.{◌∙◌, ap, map, string_bytes}
+use Rattle.shade_report.specs.Refusals.{refusal_text}
+use Rattle.dye_run.specs.Endings.{world}
+use Rattle.dye_run.specs.Forms.{form_of}
+use Rattle.dye_run.specs.Outcome.{conclusion_status, refusal_outcome, reported}
+use Rattle.dye_run.proofs.Ends.{ended_by, refusal_says, refusal_writes}
 use Rattle.dye_run.proofs.top.speak.Goals as goal
-
-pub returns-in_default-clause-ended : goal.returns-in_default-clause-ended
-returns-in_default-clause-ended g c =
-    subst (λ f. Ended (g.H.Shelf.reads_well c.args.shelf.now) (g.O.Sink.puts_well c.args.out.now) f (world_of g.H.Shelf.contents g.H.Shelf.read_count g.O.Sink.taken g.O.Sink.fault_count c.args.shelf.now c.args.out.now) (world_of g.H.Shelf.contents g.H.Shelf.read_count g.O.Sink.taken g.O.Sink.fault_count c.args.shelf.now c.deliver.new.out) c.deliver.result) c.in_default.ensures
-    (ended_by _ _ _ _ _ (only 1 usage_text) _ _ _ (inl refl) refl refl (append-nil _ ∙ c.as_bytes.ensures.value) refl c.deliver.ensures.delivered)
 
 pub returns-in-Ok-clause-ended : goal.returns-in-Ok-clause-ended
 returns-in-Ok-clause-ended g c =
     let judged = c.in-Ok.ensures.judged in
-    subst (λ f. Ended (g.H.Shelf.reads_well c.args.shelf.now) (g.O.Sink.puts_well c.args.out.now) f (world_of g.H.Shelf.contents g.H.Shelf.read_count g.O.Sink.taken g.O.Sink.fault_count c.args.shelf.now c.args.out.now) (world_of g.H.Shelf.contents g.H.Shelf.read_count g.O.Sink.taken g.O.Sink.fault_count c.judge.new.shelf c.deliver-in-Ok.new.out) c.deliver-in-Ok.result) c.in-Some.ensures
-    (ended_by _ _ _ _ _ judged.0 _ _ _ (inl judged.1) judged.2.written c.in-Ok.ensures.same (append-nil _ ∙ c.as_slice.ensures.value ∙ judged.2.text) judged.2.status c.deliver-in-Ok.ensures.delivered)
+    ended_by (form_of (map string_bytes c.args.words.now)) (world (g.H.Shelf.view c.args.shelf.now) (g.O.Sink.view c.args.out.now)) (world (g.H.Shelf.view c.answer.new.shelf) (g.O.Sink.view c.put-put.new.self))
+    (reported judged.0) c.as_slice.result.now c.conclusion_status.result c.status_after.result c.put-put.result
+    judged.1 judged.2.written c.in-Ok.ensures.reads.only.contents (c.as_slice.ensures.value ∙ judged.2.text) (c.conclusion_status.ensures ∙ ap conclusion_status judged.2.conclusion) c.put-put.ensures c.status_after.ensures
 
-pub returns-in-Err-Unreadable-clause-ended : goal.returns-in-Err-Unreadable-clause-ended
-returns-in-Err-Unreadable-clause-ended g c =
-    let unread = rw c.in-Err-Unreadable.field-0-is at c.in-Err-Unreadable.ensures.judged in
-    subst (λ f. Ended (g.H.Shelf.reads_well c.args.shelf.now) (g.O.Sink.puts_well c.args.out.now) f (world_of g.H.Shelf.contents g.H.Shelf.read_count g.O.Sink.taken g.O.Sink.fault_count c.args.shelf.now c.args.out.now) (world_of g.H.Shelf.contents g.H.Shelf.read_count g.O.Sink.taken g.O.Sink.fault_count c.judge.new.shelf c.deliver-in-Err-Unreadable.new.out) c.deliver-in-Err-Unreadable.result) c.in-Some.ensures
-    (ended_by _ _ _ _ _ (unreadable c.in-Err-Unreadable.name.now) _ _ _ (inr (c.in-Err-Unreadable.name.now, unread, refl)) refl c.in-Err-Unreadable.ensures.same (unreadable_joined _ _ _ _ c.as_slice-in-Err-Unreadable.ensures c.as_bytes-in-Err-Unreadable.ensures.value c.as_slice-in-Err-Unreadable-2.ensures) refl c.deliver-in-Err-Unreadable.ensures.delivered)
+pub returns-in-Err-Refused-clause-ended : goal.returns-in-Err-Refused-clause-ended
+returns-in-Err-Refused-clause-ended g c =
+    let reached = rw c.in-Err-Refused.field-0-is at c.in-Err-Refused.ensures.judged in
+    let refusal = c.in-Err-Refused.refusal in
+    ended_by (form_of (map string_bytes c.args.words.now)) (world (g.H.Shelf.view c.args.shelf.now) (g.O.Sink.view c.args.out.now)) (world (g.H.Shelf.view c.answer.new.shelf) (g.O.Sink.view c.put_refusal-put.new.out))
+    (refusal_outcome refusal) (refusal_text refusal) c.refusal_status.result c.status_after-in-Err-Refused.result c.put_refusal-put.result
+    reached (refusal_writes refusal) c.in-Err-Refused.ensures.reads.only.contents (refusal_says refusal) c.refusal_status.ensures c.put_refusal-put.ensures c.status_after-in-Err-Refused.ensures

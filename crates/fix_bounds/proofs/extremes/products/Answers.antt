@@ -1,5 +1,5 @@
 use Rattle.std.proofs.Common.{◌≡◌, ◌^◌, ◌∙◌, ◌*ℤ◌, sym, lit<}
-use Rattle.interval_specs.proofs.Order.{least_front, greatest_back}
+use Rattle.interval_specs.proofs.Order.{least_corner, greatest_corner}
 use Rattle.fix_bounds.proofs.Passed.{passed, read, read_product, product_fits, read_min, read_max}
 use Rattle.fix_bounds.proofs.Choices.{known_not_negative, low_low, low_high, high_low, high_high}
 use Rattle.fix_bounds.proofs.extremes.products.Given as given
@@ -26,14 +26,14 @@ overflow_mul-s g c =
 pub returns-then-c-ge0-clause-least : goal.returns-then-c-ge0-clause-least
 returns-then-c-ge0-clause-least g c =
     read_product _ _ c.args.first.lo c.args.second.lo (10 ^ 37) (read _ _ c.lo-a.type_inv c.lo-a.ensures.is) (read _ _ c.lo-c.type_inv c.lo-c.ensures.is) (low_low c.args.first c.args.second c.requires) (lit< tt)
-    ∙ sym (least_front c.args.first.lo c.args.first.hi c.args.second.lo c.args.second.hi
+    ∙ sym (least_corner c.args.first.lo c.args.first.hi c.args.second.lo c.args.second.hi
     (known_not_negative _ _ (read _ _ c.lo-a.type_inv c.lo-a.ensures.is) c.if-a-ge0.true) c.lo-a.ensures.held.ordered
     (known_not_negative _ _ (read _ _ c.lo-c.type_inv c.lo-c.ensures.is) c.if-c-ge0.true) c.lo-c.ensures.held.ordered)
 
 pub returns-then-c-ge0-clause-greatest : goal.returns-then-c-ge0-clause-greatest
 returns-then-c-ge0-clause-greatest g c =
     read_product _ _ c.args.first.hi c.args.second.hi (10 ^ 37) (read _ _ c.hi-b.type_inv c.hi-b.ensures.is) (read _ _ c.hi-d.type_inv c.hi-d.ensures.is) (high_high c.args.first c.args.second c.requires) (lit< tt)
-    ∙ sym (greatest_back c.args.first.lo c.args.first.hi c.args.second.lo c.args.second.hi
+    ∙ sym (greatest_corner c.args.first.lo c.args.first.hi c.args.second.lo c.args.second.hi
     (known_not_negative _ _ (read _ _ c.lo-a.type_inv c.lo-a.ensures.is) c.if-a-ge0.true) c.lo-a.ensures.held.ordered
     (known_not_negative _ _ (read _ _ c.lo-c.type_inv c.lo-c.ensures.is) c.if-c-ge0.true) c.lo-c.ensures.held.ordered)
 

@@ -2,9 +2,8 @@ use Rattle.std.proofs.Common.{◌≡◌, pos, ◌*◌, unsigned_abs, arith}
 use Rattle.std.specs.Int.{w128}
 use mir.Val.{to_z}
 use Rattle.interval_specs.specs.Roots.{cube, root_below, root_above, cbrt_at}
-use Rattle.interval_specs.proofs.Held.{held_by, is_ends}
+use Rattle.interval_specs.proofs.Held.{held_by, is_ends, cbrt_held}
 use Rattle.interval_specs.proofs.Roots.{cube_power}
-use Rattle.interval_specs.proofs.RootLaws.{cbrt_held}
 use Rattle.root_bounds.proofs.RootEnds.{low_end, high_end, radicand_is}
 use Rattle.root_bounds.proofs.interval.cbrt_iv.Given as given
 use Rattle.root_bounds.proofs.interval.cbrt_iv.Goals as goal

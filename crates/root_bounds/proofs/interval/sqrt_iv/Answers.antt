@@ -2,9 +2,8 @@ use Rattle.std.proofs.Common.{◌≡◌, pos, ◌*◌, unsigned_abs, arith}
 use Rattle.std.specs.Int.{w128}
 use mir.Val.{to_z}
 use Rattle.interval_specs.specs.Roots.{square, root_below, root_above, sqrt_at}
-use Rattle.interval_specs.proofs.Held.{held_by, is_ends}
+use Rattle.interval_specs.proofs.Held.{held_by, is_ends, sqrt_held}
 use Rattle.interval_specs.proofs.Roots.{square_power}
-use Rattle.interval_specs.proofs.RootLaws.{sqrt_held}
 use Rattle.root_bounds.proofs.RootEnds.{low_end, high_end, radicand_is}
 use Rattle.root_bounds.proofs.interval.sqrt_iv.Given as given
 use Rattle.root_bounds.proofs.interval.sqrt_iv.Goals as goal

@@ -1,16 +1,16 @@
-use Rattle.std.proofs.Common.{◌≡◌, ℕ, List, vec_len, ◌+◌, ◌-◌}
-use Rattle.shelf_io.specs.Counts.{CountsOf, KeepsWell}
-use Rattle.shelf_io.specs.Reading.{IsFront}
+-- The bytes so far are a prefix of the file, as many as were handed out, and no read failed.
+use Rattle.std.proofs.Common.{◌≡◌, ◌≤◌, vec_len, ◌+◌, ◌-◌}
+use Rattle.shelf_io.specs.Changes.{HandsOut, OnlyReads}
+use Rattle.shelf_io.specs.Reading.{IsKnownPrefix}
 use Rattle.shelf_io.proofs.whole_file.take_file.Given as goal
 
 abbrev pub invariant-loop-buffer : goal.invariant-loop-buffer
 invariant-loop-buffer g l = record {
-  same : g.H.Shelf.contents l.shelf ≡ g.H.Shelf.contents l.fn.shelf;
-  front : IsFront (g.H.Shelf.contents l.fn.shelf) l.name l.bytes.items;
-  counts : CountsOf (g.H.Shelf.contents l.fn.shelf) l.name (g.H.Shelf.read_count l.fn.shelf) (g.H.Shelf.read_count l.shelf);
-  other_kind : (n : List ℕ) → g.H.Shelf.write_count l.shelf n ≡ g.H.Shelf.write_count l.fn.shelf n;
-  keeps_reading : KeepsWell (g.H.Shelf.reads_well l.fn.shelf) (g.H.Shelf.reads_well l.shelf) (g.H.Shelf.read_count l.fn.shelf) (g.H.Shelf.read_count l.shelf);
-  keeps_writing : (bytes : ℕ) → KeepsWell (λ n. g.H.Shelf.writes_well l.fn.shelf n bytes) (λ n. g.H.Shelf.writes_well l.shelf n bytes) (g.H.Shelf.write_count l.fn.shelf) (g.H.Shelf.write_count l.shelf);
+  prefix : IsKnownPrefix (g.H.Shelf.view l.fn.shelf).contents l.name l.bytes.items;
+  most : vec_len l.bytes ≤ l.limit + 1;
+  only : OnlyReads (λ n. n ≡ l.name) (g.H.Shelf.view l.fn.shelf) (g.H.Shelf.view l.shelf);
+  handed : HandsOut l.name (vec_len l.bytes) (g.H.Shelf.view l.fn.shelf) (g.H.Shelf.view l.shelf);
+  stands : (g.H.Shelf.view l.shelf).read_faults l.name ≡ (g.H.Shelf.view l.fn.shelf).read_faults l.name;
 }
 
 abbrev pub decreases-loop-buffer : goal.decreases-loop-buffer

@@ -4,6 +4,6 @@ use Rattle.spectral_tables.proofs.curve_columns.curve_of.Given as goal
 
 abbrev pub invariant-loop-row : goal.invariant-loop-row
 invariant-loop-row l = record {
-  so_far : l.places.items ≡ map (λ row. slice_index row.items l.column) (take l.row-index l.rows);
-  range : All IsReflectance l.places.items;
+  so_far : l.values.items ≡ map (λ row. slice_index row.items l.column) (take l.row-index l.rows);
+  range : All IsReflectance l.values.items;
 }

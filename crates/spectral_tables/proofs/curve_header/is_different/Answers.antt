@@ -5,4 +5,4 @@ use Rattle.spectral_tables.proofs.curve_header.is_different.Goals as goal
 
 pub returns : goal.returns
 returns c =
-    rw (c.ensure.ensures, c.place_behind.ensures.row, c.place_behind.ensures.column, c.is_among.ensures, list_any_behind c.args.name.now c.args.earlier.now, length-map) refl
+    rw (c.ensure.ensures, c.cell_after.ensures.row, c.cell_after.ensures.column, c.is_among.ensures, list_any_behind c.args.name.now c.args.earlier.now, length-map) refl

@@ -1,5 +1,5 @@
 use Rattle.std.proofs.Common.{◌≡◌, ◌*◌, ◌^◌, pos, ◌+ℤ◌, ◌≤ℤ◌, neg_ℤ, drop}
-use Rattle.spectral_tables.specs.Weighing.{column_sum}
+use Rattle.spectral_tables.specs.WeightTable.{column_sum}
 use Rattle.spectral_tables.proofs.folding.column_sum.Given as goal
 
 abbrev pub invariant-loop-triple : goal.invariant-loop-triple

@@ -1,4 +1,4 @@
-use Rattle.tristimulus.proofs.Enclosing.{ratios_enclose}
+use Rattle.tristimulus.proofs.RatioLaws.{ratios_enclose}
 use Rattle.tristimulus.proofs.laws.ratios.Goals as goal
 
 pub returns : goal.returns

@@ -2,7 +2,7 @@ use Rattle.std.proofs.Common.{◌^◌, ◌∙◌, sym, refl, neg_ℤ, pos, lit<,
 use Rattle.std.specs.Int.{int_max}
 use Rattle.interval_specs.proofs.Held.{is_ends}
 use Rattle.interval_specs.proofs.Ranges.{lo_small, hi_small}
-use Rattle.interval_specs.proofs.SizeLaws.{absolute_above, absolute_below, absolute_around}
+use Rattle.interval_specs.proofs.Laws.{absolute_above, absolute_below, absolute_around}
 use Rattle.fix_bounds.proofs.Passed.{read, read_neg, read_max}
 use Rattle.fix_bounds.proofs.Choices.{known_not_negative, known_negative, known_not_positive, known_positive}
 use Rattle.fix_bounds.proofs.interval.Iv.abs.Goals as goal

@@ -2,35 +2,35 @@ use Rattle.std.proofs.Common.{◌≡◌, ◌^◌, ◌∙◌, ◌*ℤ◌, pos, li
 use Rattle.std.specs.Int.{int_max}
 use Rattle.interval_specs.specs.Operations.{cut_low_at}
 use Rattle.interval_specs.proofs.Held.{held_by, is_ends}
-use Rattle.interval_specs.proofs.Ranges.{held, cut_low_sized, of_held}
+use Rattle.interval_specs.proofs.Ranges.{held, cut_low_magnitude, of_held}
 use Rattle.fix_bounds.proofs.Passed.{passed, read, widened, read_max, read_product, product_fits}
-use Rattle.fix_bounds.proofs.Places.{place_small, place_room}
+use Rattle.fix_bounds.proofs.Levels.{level_small, level_room}
 use Rattle.fix_bounds.proofs.interval.Iv.cut_low.Given as given
 use Rattle.fix_bounds.proofs.interval.Iv.cut_low.Goals as goal
 use Rattle.fix_bounds.proofs.interval.Iv.cut_low.Goals.{After-max-2}
 
-pub overflow_mul-place : goal.overflow_mul-place
-overflow_mul-place g c =
+pub overflow_mul-level : goal.overflow_mul-level
+overflow_mul-level g c =
     product_fits _ _ c.args.k (pos g.S.Scale.unit) (10 ^ 18) (widened _ _ c.from.type_inv c.ranges.k c.from.ensures) (read _ _ c.UNIT.type_inv (c.UNIT.ensures ∙ g.S.Scale.unit_is))
-    (place_small c.args.k g.S.Scale.unit c.requires g.S.Scale.most) (lit< tt)
+    (level_small c.args.k g.S.Scale.unit c.requires g.S.Scale.most) (lit< tt)
 
--- the place of the cut
-place : (g : given.Over) (c : After-max-2 g) → passed (passed c.from.result *ℤ passed c.UNIT.result) ≡ c.args.k *ℤ pos g.S.Scale.unit
-place g c =
+-- the level of the cut
+level : (g : given.Over) (c : After-max-2 g) → passed (passed c.from.result *ℤ passed c.UNIT.result) ≡ c.args.k *ℤ pos g.S.Scale.unit
+level g c =
     read_product _ _ c.args.k (pos g.S.Scale.unit) (10 ^ 18) (widened _ _ c.from.type_inv c.ranges.k c.from.ensures) (read _ _ c.UNIT.type_inv (c.UNIT.ensures ∙ g.S.Scale.unit_is))
-    (place_small c.args.k g.S.Scale.unit c.requires g.S.Scale.most) (lit< tt)
+    (level_small c.args.k g.S.Scale.unit c.requires g.S.Scale.most) (lit< tt)
 
 low : (g : given.Over) (c : After-max-2 g) → passed c.max.result ≡ int_max c.args.self.lo (c.args.k *ℤ pos g.S.Scale.unit)
-low g c = read_max _ _ _ _ _ c.max.type_inv c.max.ensures.value (read _ _ c.lo.type_inv c.lo.ensures.is) (place g c)
+low g c = read_max _ _ _ _ _ c.max.type_inv c.max.ensures.value (read _ _ c.lo.type_inv c.lo.ensures.is) (level g c)
 
 high : (g : given.Over) (c : After-max-2 g) → passed c.max-2.result ≡ int_max c.args.self.hi (c.args.k *ℤ pos g.S.Scale.unit)
-high g c = read_max _ _ _ _ _ c.max-2.type_inv c.max-2.ensures.value (read _ _ c.hi.type_inv c.hi.ensures.is) (place g c)
+high g c = read_max _ _ _ _ _ c.max-2.type_inv c.max-2.ensures.value (read _ _ c.hi.type_inv c.hi.ensures.is) (level g c)
 
 pub of_ends-requires : goal.of_ends-requires
 unfolding cut_low_at
 of_ends-requires g c =
     held_by _ _ (cut_low_at g.S.Scale.unit c.args.k c.args.self) (low g c) (high g c)
-    (held _ (cut_low_sized g.S.Scale.unit (10 ^ 25) c.args.k c.args.self (place_room c.args.k g.S.Scale.unit c.requires g.S.Scale.most) (of_held c.args.self c.lo.ensures.held)))
+    (held _ (cut_low_magnitude g.S.Scale.unit (10 ^ 25) c.args.k c.args.self (level_room c.args.k g.S.Scale.unit c.requires g.S.Scale.most) (of_held c.args.self c.lo.ensures.held)))
 
 pub returns-clause-is : goal.returns-clause-is
 unfolding cut_low_at

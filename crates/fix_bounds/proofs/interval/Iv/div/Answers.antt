@@ -1,11 +1,11 @@
 use Rattle.std.proofs.Common.{◌≡◌, ◌≤◌, ◌^◌, ◌∙◌, ◌*ℤ◌, pos, subst, sym, unsigned_abs, lit<, le_trans, le_refl}
-use Rattle.interval_specs.specs.Ends.{size_of}
+use Rattle.interval_specs.specs.Ends.{magnitude_of}
 use Rattle.interval_specs.specs.Rounding.{floor_over, ceil_over}
 use Rattle.interval_specs.specs.Operations.{quotient_at}
 use Rattle.std.specs.Int.{int_min, int_max}
 use Rattle.interval_specs.proofs.Held.{held_by, is_ends}
-use Rattle.interval_specs.proofs.Ranges.{held, quotient_sized, sized_of_held, lo_small, hi_small}
-use Rattle.interval_specs.proofs.QuotientLaw.{quotient_lower, quotient_upper}
+use Rattle.interval_specs.proofs.Ranges.{held, quotient_magnitude, magnitude_of_held, lo_small, hi_small}
+use Rattle.interval_specs.proofs.Laws.{quotient_lower, quotient_upper}
 use Rattle.fix_bounds.proofs.Passed.{passed, read, read_product, product_fits}
 use Rattle.fix_bounds.proofs.Choices.{scaled_room}
 use Rattle.fix_bounds.proofs.interval.Iv.div.Given as given
@@ -62,7 +62,7 @@ of_ends-requires g c =
     let a = c.args.self in
     let b = c.args.by in
     held_by _ _ (quotient_at g.S.Scale.unit a b) (low g c) (high g c)
-    (held _ (quotient_sized g.S.Scale.unit (10 ^ 25) (size_of a) (unsigned_abs b.lo) a b c.requires.positive c.lo-near.ensures.held.ordered (le_refl (unsigned_abs b.lo)) c.requires.size (sized_of_held a c.lo.ensures.held)))
+    (held _ (quotient_magnitude g.S.Scale.unit (10 ^ 25) (magnitude_of a) (unsigned_abs b.lo) a b c.requires.positive c.lo-near.ensures.held.ordered (le_refl (unsigned_abs b.lo)) c.requires.magnitude (magnitude_of_held a c.lo.ensures.held)))
 
 pub returns-clause-is : goal.returns-clause-is
 returns-clause-is g c =

@@ -2,7 +2,7 @@ use Rattle.std.proofs.Common.{◌≡◌, ◌^◌}
 use Rattle.std.specs.Int.{int_min, int_max}
 use Rattle.interval_specs.specs.Operations.{hull_of}
 use Rattle.interval_specs.proofs.Held.{held_by, is_ends}
-use Rattle.interval_specs.proofs.Ranges.{held, hull_sized, of_held}
+use Rattle.interval_specs.proofs.Ranges.{held, hull_magnitude, of_held}
 use Rattle.fix_bounds.proofs.Passed.{passed, read, read_min, read_max}
 use Rattle.fix_bounds.proofs.interval.Iv.hull.Given as given
 use Rattle.fix_bounds.proofs.interval.Iv.hull.Goals as goal
@@ -18,7 +18,7 @@ pub of_ends-requires : goal.of_ends-requires
 unfolding hull_of
 of_ends-requires g c =
     held_by _ _ (hull_of c.args.self c.args.other) (low g c) (high g c)
-    (held _ (hull_sized (10 ^ 25) c.args.self c.args.other (of_held c.args.self c.lo.ensures.held) (of_held c.args.other c.lo-2.ensures.held)))
+    (held _ (hull_magnitude (10 ^ 25) c.args.self c.args.other (of_held c.args.self c.lo.ensures.held) (of_held c.args.other c.lo-2.ensures.held)))
 
 pub returns-clause-is : goal.returns-clause-is
 unfolding hull_of

@@ -1,9 +1,9 @@
 use Rattle.std.proofs.Common.{◌≡◌, ◌≤◌, ◌^◌, ◌∙◌, ap, subst, sym, unsigned_abs, arith, lit<}
-use Rattle.interval_specs.specs.Ends.{size_of}
+use Rattle.interval_specs.specs.Ends.{magnitude_of}
 use Rattle.interval_specs.specs.Rounding.{floor_over, ceil_over}
 use Rattle.interval_specs.specs.Operations.{product_at, least_product, greatest_product}
 use Rattle.interval_specs.proofs.Held.{held_by, is_ends}
-use Rattle.interval_specs.proofs.Ranges.{held, product_sized, sized_of_held}
+use Rattle.interval_specs.proofs.Ranges.{held, product_magnitude, magnitude_of_held}
 use Rattle.fix_bounds.proofs.Passed.{passed, read, settled}
 use Rattle.fix_bounds.proofs.Choices.{least_room, greatest_room, unit_room}
 use Rattle.fix_bounds.proofs.interval.Iv.mul.Given as given
@@ -33,8 +33,8 @@ of_ends-requires g c =
     let a = c.args.self in
     let b = c.args.other in
     held_by _ _ (product_at g.S.Scale.unit a b) (low g c) (high g c)
-    (held _ (product_sized g.S.Scale.unit (10 ^ 25) (size_of a) (size_of b) a b (omega (arith, g.S.Scale.least)) c.requires
-    (sized_of_held a c.products-least.ensures.first_held) (sized_of_held b c.products-least.ensures.second_held)))
+    (held _ (product_magnitude g.S.Scale.unit (10 ^ 25) (magnitude_of a) (magnitude_of b) a b (omega (arith, g.S.Scale.least)) c.requires
+    (magnitude_of_held a c.products-least.ensures.first_held) (magnitude_of_held b c.products-least.ensures.second_held)))
 
 pub returns-clause-is : goal.returns-clause-is
 unfolding product_at

@@ -27,7 +27,7 @@ high g c =
 pub rounded-requires : goal.rounded-requires
 rounded-requires g c =
     can_round _ _ _ _ _ _ (low g c) (high g c) (read _ _ c.from-3.type_inv c.from-3.ensures)
-    (fraction_rounds c.args.num c.args.den c.args.self c.lo.ensures.held c.requires.positive c.requires.room c.requires.size)
+    (fraction_rounds c.args.num c.args.den c.args.self c.lo.ensures.held c.requires.positive c.requires.room c.requires.magnitude)
 
 pub returns-clause-is : goal.returns-clause-is
 unfolding fraction_of

@@ -1,9 +1,9 @@
 use Rattle.std.proofs.Common.{◌≡◌, ◌^◌, ◌*ℤ◌, lit<}
 use Rattle.interval_specs.specs.Operations.{multiple_of}
 use Rattle.interval_specs.proofs.Held.{held_by, is_ends}
-use Rattle.interval_specs.proofs.Ranges.{held, multiple_sized, sized_of_held, sized_wider}
+use Rattle.interval_specs.proofs.Ranges.{held, multiple_magnitude, magnitude_of_held, magnitude_wider}
 use Rattle.fix_bounds.proofs.Passed.{passed, read, widened, read_min, read_max, read_product, product_fits}
-use Rattle.fix_bounds.proofs.Places.{multiple_small_lo, multiple_small_hi}
+use Rattle.fix_bounds.proofs.Levels.{multiple_small_lo, multiple_small_hi}
 use Rattle.fix_bounds.proofs.interval.Iv.scale_by.Given as given
 use Rattle.fix_bounds.proofs.interval.Iv.scale_by.Goals as goal
 use Rattle.fix_bounds.proofs.interval.Iv.scale_by.Goals.{After-max}
@@ -29,7 +29,7 @@ pub of_ends-requires : goal.of_ends-requires
 unfolding multiple_of
 of_ends-requires g c =
     held_by _ _ (multiple_of c.args.k c.args.self) (read_min _ _ _ _ _ c.min.type_inv c.min.ensures.value (one g c) (other g c)) (read_max _ _ _ _ _ c.max.type_inv c.max.ensures.value (one g c) (other g c))
-    (held _ (sized_wider _ (10 ^ 25) (multiple_of c.args.k c.args.self) c.requires (multiple_sized _ c.args.k c.args.self (sized_of_held c.args.self c.lo.ensures.held))))
+    (held _ (magnitude_wider _ (10 ^ 25) (multiple_of c.args.k c.args.self) c.requires (multiple_magnitude _ c.args.k c.args.self (magnitude_of_held c.args.self c.lo.ensures.held))))
 
 pub returns-clause-is : goal.returns-clause-is
 unfolding multiple_of

@@ -1,18 +1,18 @@
 use Rattle.std.proofs.Common.{◌≡◌, ◌^◌, ◌-ℤ◌, le_trans, lit<}
 use Rattle.interval_specs.specs.Operations.{difference_of}
-use Rattle.interval_specs.specs.Ranges.{Sized}
+use Rattle.interval_specs.specs.Ranges.{MagnitudeUpTo}
 use Rattle.interval_specs.proofs.Held.{held_by, is_ends}
-use Rattle.interval_specs.proofs.Ranges.{held, lo_small, hi_small, difference_sized, sized_of_held, sized_wider}
+use Rattle.interval_specs.proofs.Ranges.{held, lo_small, hi_small, difference_magnitude, magnitude_of_held, magnitude_wider}
 use Rattle.fix_bounds.proofs.Passed.{passed, read, read_difference}
 use Rattle.fix_bounds.proofs.interval.Iv.sub.Given as given
 use Rattle.fix_bounds.proofs.interval.Iv.sub.Goals as goal
 use Rattle.fix_bounds.proofs.interval.Iv.sub.Goals.{After-lo-2}
 
 -- the result is no larger than the two together
-small : (g : given.Over) (c : After-lo-2 g) → Sized (10 ^ 25) (difference_of c.args.self c.args.other)
+small : (g : given.Over) (c : After-lo-2 g) → MagnitudeUpTo (10 ^ 25) (difference_of c.args.self c.args.other)
 small g c =
-    sized_wider _ (10 ^ 25) (difference_of c.args.self c.args.other) c.requires
-    (difference_sized _ _ c.args.self c.args.other (sized_of_held c.args.self c.lo.ensures.held) (sized_of_held c.args.other c.lo-2.ensures.held))
+    magnitude_wider _ (10 ^ 25) (difference_of c.args.self c.args.other) c.requires
+    (difference_magnitude _ _ c.args.self c.args.other (magnitude_of_held c.args.self c.lo.ensures.held) (magnitude_of_held c.args.other c.lo-2.ensures.held))
 
 low : (g : given.Over) (c : After-lo-2 g) → passed (passed c.lo.result -ℤ passed c.hi.result) ≡ c.args.self.lo -ℤ c.args.other.hi
 unfolding difference_of

@@ -1,7 +1,7 @@
 use Rattle.std.proofs.Common.{◌≡◌, IsSome, option_map, sym, ◌∙◌, subst, refl, arith}
 use Rattle.std.proofs.lemmas.Bool.Decides.{nat_tests}
 use Rattle.std.proofs.lemmas.Grind.{common_steps}
-use Rattle.shelf_io.specs.Calls.{is_told, one_more}
+use Rattle.shelf_io.specs.Calls.{is_scheduled, one_more}
 use Rattle.shelf_io.specs.Held.{held_under}
 use Rattle.shelf_io.specs.MemShelf.{ShelfState, append_fails, append_size}
 use Rattle.shelf_io.specs.contracts.mem_shelf.MemShelf.{the_view}
@@ -16,9 +16,9 @@ unwrap-at-requires c =
 
 pub returns-clause-after : goal.returns-clause-after
 returns-clause-after c =
-    let told : c.is_told-told.result ≡ is_told c.self.inside.failing.items c.self.inside.calls = grind (arith, common_steps) in
+    let told : c.is_scheduled-scheduled.result ≡ is_scheduled c.self.inside.failing.items c.self.inside.calls = grind (arith, common_steps) in
     let calls : c.saturating_add-self-inside.result ≡ one_more c.self.inside.calls = grind (arith, common_steps) in
-    let refused : c.if-told.refused ≡ append_fails (the_view c.self.inside) c.args.piece.now = grind (arith, nat_tests) in
+    let refused : c.if-scheduled.refused ≡ append_fails (the_view c.self.inside) c.args.piece.now = grind (arith, nat_tests) in
     let size : c.fitting-size.result ≡ append_size (the_view c.self.inside) c.args.piece.now = grind (arith, nat_tests) in
-    rw (← c.self.view_is) (append_there (the_view c.self.inside) c.args.name.now c.args.piece.now c.deref-2.result.now c.unwrap-at.result c.fitting-size.result _ _ c.index_mut-file.result.now c.append.new.self c.if-told.refused
+    rw (← c.self.view_is) (append_there (the_view c.self.inside) c.args.name.now c.args.piece.now c.deref-2.result.now c.unwrap-at.result c.fitting-size.result _ _ c.index_mut-file.result.now c.append.new.self c.if-scheduled.refused
     c.deref-2.ensures.value (sym c.unwrap-at.ensures ∙ c.place_of.ensures.place) c.index_mut-file.ensures.value refused size c.append.ensures refl calls)

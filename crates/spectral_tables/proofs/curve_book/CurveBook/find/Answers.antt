@@ -1,6 +1,6 @@
 use Rattle.std.proofs.Common.{◌≡◌, length, List, ℕ, option_map, Bor, sym, ap, ◌∙◌, subst}
 use Rattle.spectral_tables.specs.Curve.{IsCurve}
-use Rattle.spectral_tables.specs.CurveBook.{curve_named, place_count, IsBook}
+use Rattle.spectral_tables.specs.CurveBook.{curve_named, wave_count, IsBook}
 use Rattle.spectral_tables.proofs.BookFacts.{named-book_of, holds-found}
 use Rattle.spectral_tables.proofs.curve_book.CurveBook.find.Goals as goal
 
@@ -19,5 +19,5 @@ returns-clause-is c = found c
 pub returns-clause-curve : goal.returns-clause-curve
 returns-clause-curve c = holds-found IsCurve c.args.name.now c.args.self.now c.get.result (found c) (kept c).curves
 
-pub returns-clause-places : goal.returns-clause-places
-returns-clause-places c = holds-found (λ m. length m ≡ place_count c.args.self.now) c.args.name.now c.args.self.now c.get.result (found c) (kept c).equal
+pub returns-clause-waves : goal.returns-clause-waves
+returns-clause-waves c = holds-found (λ m. length m ≡ wave_count c.args.self.now) c.args.name.now c.args.self.now c.get.result (found c) (kept c).equal

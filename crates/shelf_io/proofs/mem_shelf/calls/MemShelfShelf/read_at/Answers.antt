@@ -1,21 +1,14 @@
-use Rattle.shelf_io.proofs.Changes.{after_error}
-use Rattle.shelf_io.proofs.ReadKeeps.{read_contents, read_counts, read_other_kind, read_rose, read_keeps_reading, read_keeps_writing}
+use Rattle.shelf_io.proofs.ReadKeeps.{read_counted, read_handed, read_only, read_promised}
 use Rattle.shelf_io.proofs.mem_shelf.calls.MemShelfShelf.read_at.Goals as goal
 
-pub returns-clause-same : goal.returns-clause-same
-returns-clause-same c = read_contents _ _ c.args.name.now c.read.ensures.after
+pub returns-clause-only : goal.returns-clause-only
+returns-clause-only c = read_only _ _ c.args.name.now _ _ c.read.ensures.after
 
-pub returns-clause-counts : goal.returns-clause-counts
-returns-clause-counts c = read_counts _ _ c.args.name.now c.read.ensures.after
+pub returns-clause-handed : goal.returns-clause-handed
+returns-clause-handed c = read_handed _ _ c.args.name.now _ _ c.read.result c.read.ensures.after c.read.ensures.exact c.read.ensures.size
 
-pub returns-clause-other_kind : goal.returns-clause-other_kind
-returns-clause-other_kind c = read_other_kind _ _ c.args.name.now c.read.ensures.after
+pub returns-clause-counted : goal.returns-clause-counted
+returns-clause-counted c = read_counted _ _ c.args.name.now _ _ c.read.result c.read.ensures.after c.read.ensures.exact
 
-pub returns-clause-failed : goal.returns-clause-failed
-returns-clause-failed c = after_error c.read.result _ c.read.ensures.exact (read_rose _ _ c.args.name.now c.read.ensures.after)
-
-pub returns-clause-keeps_reading : goal.returns-clause-keeps_reading
-returns-clause-keeps_reading c = read_keeps_reading _ _ c.args.name.now c.read.ensures.after
-
-pub returns-clause-keeps_writing : goal.returns-clause-keeps_writing
-returns-clause-keeps_writing c = read_keeps_writing _ _ c.args.name.now c.read.ensures.after
+pub returns-clause-promised : goal.returns-clause-promised
+returns-clause-promised c = read_promised c.args.self.now c.args.name.now c.read.result c.read.ensures.exact

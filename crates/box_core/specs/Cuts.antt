@@ -1,0 +1,12 @@
+-- Boxes in two halves.
+use Rattle.std.specs.Prelude.{◌≡◌, ◌+◌}
+use Rattle.box_core.specs.declared.part.Cut.{Cut}
+use Rattle.box_specs.specs.Span.{Span}
+use Rattle.box_specs.specs.Splits.{CutAt, lower_half, upper_half}
+
+-- the box is split at this cut, its dye being counted from 1
+pub record CutsAt (b : Span) (at : CutAt) (cut : Cut) : Type 0 where
+  pub dye : cut.dye ≡ at.dye + 1
+  pub mid : cut.mid ≡ at.mid
+  pub left : cut.left ≡ lower_half b at
+  pub right : cut.right ≡ upper_half b at

@@ -1,0 +1,4 @@
+pub mod Cuts
+pub mod Meter
+pub mod RangeProps
+pub mod Ranges

@@ -1,0 +1,25 @@
+//! Counting judgements.
+
+ghost use Rattle.std.specs.Prelude.{◌≡◌};
+ghost use Rattle.box_core.specs.Meter.{one_more};
+
+/// A meter: how many boxes were judged, and how many of them afresh. A count stays at `u64::MAX`
+/// once it is there.
+#[derive(Clone, Copy, Debug, Default, PartialEq, Eq)]
+pub struct Evals {
+    /// How many boxes were judged.
+    pub judged: u64,
+    /// How many of them were judged afresh.
+    pub fresh: u64,
+}
+
+impl Evals {
+    /// Counts a box that was judged afresh.
+    pub fn count(&mut self)
+        ensures { self.new
+            ≡ record { judged = one_more self.old.judged; fresh = one_more self.old.fresh } }
+    {
+        self.judged = self.judged.saturating_add(1);
+        self.fresh = self.fresh.saturating_add(1);
+    }
+}

@@ -1,0 +1,18 @@
+//! Boxes of recipes: how they are split, what a search may ask of a landscape of recipes, and
+//! certificates.
+#![tactic(auto)]
+
+mod cert;
+mod cutting;
+mod evals;
+mod landscape;
+pub mod laws;
+mod lists;
+mod part;
+
+pub use box_specs::{CertFault, CertLine, CertRule, Checked, Claim, Judged, Why};
+pub use cert::Cert;
+pub use evals::Evals;
+pub use landscape::{Landscape, corner_key};
+pub use lists::{LineList, StepsList};
+pub use part::{BoxR, Cut, halves, split};

@@ -1,0 +1,33 @@
+-- What a valid certificate means, over the plain list of recipes.
+use Rattle.std.specs.Prelude.{◌≡◌, ◌⊎◌, ◌<◌, ℕ, true, List, All}
+use Rattle.box_specs.specs.declared.certificate.Claim.{Claim}
+use Rattle.box_specs.specs.declared.certificate.Claim.TheVariants.{Floor, Match, NoMatch}
+use Rattle.box_specs.specs.Landscape.{Land, fails, is_admitted, is_before, passes, unsure}
+use Rattle.box_specs.specs.Span.{IsWithin}
+use Rattle.box_specs.specs.Validity.{is_listed}
+
+module _ (l : Land) (listed : List (List ℕ)) where
+  -- every admitted recipe of which a fact holds fails or is listed
+  abbrev pub SettlesAll : (List ℕ → Type 0) → Type 0
+  SettlesAll P =
+      (steps : List ℕ) → IsWithin steps l.top → is_admitted l steps ≡ true → P steps
+      → (l.grade steps ≡ fails) ⊎ (is_listed listed steps ≡ true)
+
+  -- a match: every admitted recipe before it fails or is listed, and it is admitted and passes; no match: every admitted recipe
+  -- fails or is listed; a floor: every admitted recipe that costs less does
+  abbrev pub MeansClaim : Claim → Type 0
+  MeansClaim (Match recipe) =
+      SettlesAll (λ steps. is_before l steps recipe.items ≡ true)
+      × IsWithin recipe.items l.top × (is_admitted l recipe.items ≡ true) × (l.grade recipe.items ≡ passes)
+  MeansClaim NoMatch = SettlesAll (λ steps. Unit {0})
+  MeansClaim (Floor cost) = SettlesAll (λ steps. l.cost steps < cost)
+
+  -- a listed recipe is one of the grid that is admitted and undecided
+  pub record IsUnsure (steps : List ℕ) : Type 0 where
+    pub grid : IsWithin steps l.top
+    pub admitted : is_admitted l steps ≡ true
+    pub verdict : l.grade steps ≡ unsure
+
+  pub record Means (claim : Claim) : Type 0 where
+    pub claimed : MeansClaim claim
+    pub unsure : All IsUnsure listed

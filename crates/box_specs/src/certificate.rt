@@ -1,0 +1,83 @@
+//! The parts of a certificate, and why one is refused.
+
+use price_grid::Steps;
+
+/// A line of the tree of a certificate.
+#[derive(Clone, Copy, Debug, PartialEq, Eq)]
+pub enum CertLine {
+    /// The box is split after `mid` steps of the dye of this number, from 1.
+    Split { dye: u8, mid: u16 },
+    /// This limit excludes the box.
+    Limit(u8),
+    /// This light fails on the box.
+    Fail(u8),
+    /// The box is too dear for the claim.
+    Dear,
+    /// The box is one recipe, which is undecided.
+    Undecided,
+    /// The box is one recipe, which passes.
+    Pass,
+}
+
+/// What a certificate claims of the recipes.
+#[derive(Debug, Drop)]
+pub enum Claim {
+    /// This is the first recipe that passes.
+    Match(Steps),
+    /// No recipe passes.
+    NoMatch,
+    /// No recipe that costs less than this passes.
+    Floor(u64),
+}
+
+/// A rule of the certificate's grammar.
+#[derive(Clone, Copy, Debug, PartialEq, Eq)]
+pub enum CertRule {
+    /// The first line is another one.
+    BadHeader,
+    /// The second line is no claim, or the third does not say how many recipes are listed.
+    BadClaim,
+    /// A line has no spelling of its kind.
+    BadLine,
+    /// No whole line stands where one is due.
+    Missing,
+    /// Something stands after the whole tree.
+    Left,
+}
+
+/// The first fault of a certificate's text, with its line from 1.
+#[derive(Clone, Copy, Debug, PartialEq, Eq)]
+pub struct CertFault {
+    pub line: u32,
+    pub rule: CertRule,
+}
+
+/// Why a line of a certificate does not hold.
+#[derive(Clone, Copy, Debug, PartialEq, Eq)]
+pub enum Why {
+    /// The dye does not exist, or the box cannot be split there.
+    BadSplit,
+    /// The limit does not exclude the box.
+    NotLimit,
+    /// The light does not fail on the box.
+    NotFailing,
+    /// The box is not too dear for the claim.
+    NotDear,
+    /// The box has more than one recipe.
+    NotPoint,
+    /// The recipe is not admitted and undecided.
+    NotUndecided,
+    /// The recipe is not admitted and passing.
+    NotPassing,
+    /// The listed recipes, the claim and the lines do not agree.
+    WrongList,
+}
+
+/// What comes of checking a certificate.
+#[derive(Clone, Copy, Debug, PartialEq, Eq)]
+pub enum Checked {
+    /// It is valid.
+    Accepted,
+    /// It first fails at this line, from 1, and this is why.
+    Refused { line: u32, why: Why },
+}

@@ -1,0 +1,14 @@
+-- A landscape of one dye, for the tests: recipes with fewer than some number of steps fail, the others pass; two limits
+-- exclude those with more than another number of steps.
+use Rattle.std.specs.Prelude.{◌==◌, ◌&&◌, ◌||◌, ℕ, nat_lt, [], ◌∷◌, slice_index, if◌then◌else◌}
+use Rattle.box_specs.specs.Landscape.{Land, fails, passes}
+
+abbrev pub ladder : (most first last : ℕ) → Land
+ladder most first last = record {
+  top = record { lo = 0 ∷ []; hi = most ∷ [] };
+  lights = 1;
+  cost = λ steps. slice_index steps 0;
+  grade = λ steps. if nat_lt (slice_index steps 0) first then fails else passes;
+  excluded = λ limit b. ((limit == 3) || (limit == 5)) && nat_lt last (slice_index b.lo 0);
+  failing = λ light b. (light == 1) && nat_lt (slice_index b.hi 0) first;
+}

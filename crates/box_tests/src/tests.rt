@@ -1,0 +1,74 @@
+use crate::Ladder;
+use box_core::{BoxR, Judged, Landscape, Evals, corner_key, halves, split};
+use price_grid::Steps;
+use std::test::Fail;
+
+// The box between two corners, where they are in order.
+fn box_of(lo: [u16; 2], hi: [u16; 2]) -> Option<BoxR> {
+    if lo[0] > hi[0] || lo[1] > hi[1] {
+        return None;
+    }
+    let mut low = Steps::new();
+    low.push(lo[0]);
+    low.push(lo[1]);
+    let mut high = Steps::new();
+    high.push(hi[0]);
+    high.push(hi[1]);
+    Some(BoxR { lo: low, hi: high })
+}
+
+#[test]
+fn splits_boxes(rt: HostRuntime) -> Result<(), Fail> {
+    for (lo, hi, dye, mid, left, right) in [
+        ([0, 0], [4, 4], 1, 0, [0, 4], [1, 0]),
+        ([1, 0], [4, 0], 1, 2, [2, 0], [3, 0]),
+        ([1, 1], [4, 4], 1, 2, [2, 4], [3, 1]),
+        ([1, 1], [2, 4], 2, 2, [2, 2], [1, 3]),
+    ] {
+        if let Some(part) = box_of(lo, hi) {
+            if !part.is_single() {
+                let cut = split(&part);
+                assert_eq!(rt; (cut.dye, cut.mid), (dye, mid));
+                assert_eq!(rt; cut.left.lo.as_slice(), lo.as_slice());
+                assert_eq!(rt; cut.left.hi.as_slice(), left.as_slice());
+                assert_eq!(rt; cut.right.lo.as_slice(), right.as_slice());
+                assert_eq!(rt; cut.right.hi.as_slice(), hi.as_slice());
+            }
+            assert!(rt; halves(&part, dye, mid).is_some());
+            assert!(rt; halves(&part, 0, mid).is_none());
+            assert!(rt; halves(&part, 3, mid).is_none());
+            assert!(rt; halves(&part, dye, 4).is_none());
+        }
+    }
+    Ok(())
+}
+
+// What is known of the top of a landscape, and of the halves that it is split into.
+fn judge_top<L: Landscape>(land: &L, meter: &mut L::Meter) -> (Judged, u64, bool) {
+    let top = land.top();
+    let key = corner_key(land, &top);
+    let fails = land.fails(1, &top, meter) || land.excludes(3, &top);
+    (land.judge(&top, meter), key.cost, fails)
+}
+
+#[test]
+fn judges_a_ladder(rt: HostRuntime) -> Result<(), Fail> {
+    for (most, first, want) in [
+        (4, 5, Judged::Fail(1)),
+        (4, 3, Judged::StillOpen),
+        (0, 0, Judged::Pass),
+    ] {
+        let land = Ladder {
+            most,
+            first,
+            last: most,
+        };
+        let mut meter = Evals::default();
+        let (judged, cost, fails) = judge_top(&land, &mut meter);
+        assert_eq!(rt; judged, want);
+        assert_eq!(rt; (cost, fails), (0, want == Judged::Fail(1)));
+        assert_eq!(rt; (land.judged(&meter), land.fresh(&meter)), (2, 2));
+        assert_eq!(rt; (land.dims(), land.lights()), (1, 1));
+    }
+    Ok(())
+}

@@ -1,7 +1,0 @@
-use Rattle.std.proofs.Common.{◌+◌, ◌*◌, min, ◌∙◌}
-use Rattle.dec_text.specs.Decimal.{largest}
-use Rattle.dec_text.proofs.Sizes.{capped-size_of}
-use Rattle.dec_text.proofs.size.size.Goals as goal
-
-pub returns : goal.returns
-returns c = c.min.ensures ∙ (λ i. min (c.from.ensures i * c.pow-power.result) (c.from-2.ensures i)) ∙ capped-size_of (largest + 1) c.args.places c.args.whole.now c.args.fraction.now c.min-written.result c.digits_behind.result c.digits_behind-digits.result c.pow-power.result c.min-written.ensures c.digits_behind.ensures c.digits_behind-digits.ensures c.pow-power.ensures

@@ -1,0 +1,12 @@
+use Rattle.std.proofs.Common.{rules, refl}
+use Rattle.dye_run.specs.Inputs.{book_from}
+use Rattle.dye_run.specs.Outcome.{table, too_long}
+use Rattle.dye_run.proofs.tables.book_from.Goals as goal
+
+pub returns-in_default : goal.returns-in_default
+unfolding book_from
+returns-in_default c = (too_long c.args.name.now, refl, search rules)
+
+pub returns-in-Err-Fault : goal.returns-in-Err-Fault
+unfolding book_from
+returns-in-Err-Fault c = (table c.args.name.now c.in-Err-Fault.fault, refl, search rules)

@@ -1,0 +1,76 @@
+-- `diff`: the CMC(l:c) difference of two columns under a light, and its verdict where there is a tolerance.
+use Rattle.std.specs.Prelude.{ℕ, List, [], ◌∷◌, ◌++◌, ◌&&◌, codes, Option, Some, None, Result, Ok, option_map, if◌then◌else◌}
+use Rattle.interval_specs.specs.Ends.{Ends}
+use Rattle.cmc_specs.specs.Cmc.{cmc_at}
+use Rattle.spectral_tables.specs.WeightTable.{WeightTable}
+use Rattle.dye_run.specs.Answers.{Evaluation, Report, base_unit, line_of, plain_report, verdict_on}
+use Rattle.dye_run.specs.Colours.{curve_lab}
+use Rattle.dye_run.specs.Inputs.{◌>>=◌, Tables, curve_from}
+use Rattle.dye_run.specs.Outcome.{FileFault}
+use Rattle.metamerism.specs.declared.outcomes.Verdict.{Verdict}
+use Rattle.metamerism.specs.declared.outcomes.Verdict.TheVariants.{Fail, Pass, Undecided}
+use Rattle.dye_run.specs.Words.{is_file_word, number_in}
+use Rattle.dye_run.specs.declared.statuses.Conclusion.TheVariants.{Judged}
+
+-- the tolerance is in thousandths
+pub record DiffWords : Type 0 where
+  pub curves : List ℕ
+  pub standard : List ℕ
+  pub sample : List ℕ
+  pub weights : List ℕ
+  pub l10 : ℕ
+  pub c10 : ℕ
+  pub tolerance : Option ℕ
+
+abbrev pub diff_with : (curves standard sample weights : List ℕ) → Option ℕ → Option ℕ → Option (Option ℕ) → Option DiffWords
+diff_with curves standard sample weights (Some l10) (Some c10) (Some tolerance) =
+    if is_file_word curves && is_file_word weights
+    then Some (record { curves = curves; standard = standard; sample = sample; weights = weights; l10 = l10; c10 = c10; tolerance = tolerance })
+    else None
+diff_with curves standard sample weights (Some l10) (Some c10) None = None
+diff_with curves standard sample weights (Some l10) None tolerance = None
+diff_with curves standard sample weights None c10 tolerance = None
+
+-- [TOL], 0 to 100,000 thousandths
+abbrev pub tolerance_of : List (List ℕ) → Option (Option ℕ)
+tolerance_of [] = Some None
+tolerance_of (word ∷ []) = option_map Some (number_in 0 100000 word)
+tolerance_of words = None
+
+-- CURVES STANDARD SAMPLE WEIGHTS L10 C10 [TOL]: the weights l and c are 1 to 100 tenths
+abbrev pub diff_words : List (List ℕ) → Option DiffWords
+diff_words (curves ∷ standard ∷ sample ∷ weights ∷ l ∷ c ∷ rest) =
+    diff_with curves standard sample weights (number_in 1 100 l) (number_in 1 100 c) (tolerance_of rest)
+diff_words words = None
+
+-- the CMC(l:c) difference of two curves, the first of them the standard, at scale n
+abbrev pub curve_difference : (l10 c10 : ℕ) → WeightTable → List ℕ → List ℕ → ℕ → Ends
+curve_difference l10 c10 light standard sample n = cmc_at l10 c10 n (curve_lab light standard n) (curve_lab light sample n)
+
+abbrev pub difference_evaluation : DiffWords → WeightTable → List ℕ → List ℕ → Evaluation
+difference_evaluation words light standard sample =
+    record { label = codes "DE"; at = curve_difference words.l10 words.c10 light standard sample; tolerance = words.tolerance }
+
+abbrev pub verdict_name : Verdict → List ℕ
+verdict_name Pass = codes "pass"
+verdict_name (Fail number) = codes "fail"
+verdict_name Undecided = codes "undecided"
+
+-- the line of a difference, and a line for its verdict where it is held to a tolerance
+abbrev pub difference_report : Option ℕ → Evaluation → Report
+difference_report None e = plain_report (e ∷ [])
+difference_report (Some t) e =
+    record {
+      conclusion = Judged (verdict_on e t base_unit);
+      text = line_of e ++ verdict_name (verdict_on e t base_unit) ++ 10 ∷ [];
+      evaluations = e ∷ [];
+      written = None;
+    }
+
+-- the report, of the curves and the weights of the files: a missing column is that of the standard before that of the
+-- sample
+unfoldable pub diff_report : DiffWords → Tables → Result Report FileFault
+diff_report words tables = do
+  standard ← curve_from words.curves words.standard tables.book
+  sample ← curve_from words.curves words.sample tables.book
+  Ok (difference_report words.tolerance (difference_evaluation words tables.light standard sample))

@@ -1,0 +1,66 @@
+-- What a call comes to, with its status and its text: each a table.
+use Rattle.std.specs.Prelude.{ℕ, List, Option, None, Result, Ok, Err}
+use Rattle.spectral_tables.specs.declared.fault.TableFault.{TableFault}
+use Rattle.shade_report.specs.Refusals.{fault_text, no_column_text, refused_text, too_long_text, unreadable_text, usage_text}
+use Rattle.shade_report.specs.declared.refusal.Refusal.{Refusal}
+use Rattle.shade_report.specs.declared.refusal.Refusal.TheVariants as why
+use Rattle.dye_run.specs.Answers.{Report}
+use Rattle.dye_run.specs.declared.statuses.Conclusion.{Conclusion}
+use Rattle.dye_run.specs.declared.statuses.Conclusion.TheVariants.{NoVerdict, Judged}
+use Rattle.metamerism.specs.declared.outcomes.Verdict.TheVariants.{Fail, Pass, Undecided}
+
+-- why a file that was read is refused: it has more bytes than its limit, a table breaks a rule, or a column is missing
+pub data FileFault : Type 0 where
+  too_long : (name : List ℕ) → FileFault
+  table : (name : List ℕ) → TableFault → FileFault
+  no_column : (name column : List ℕ) → FileFault
+
+-- the words have no listed form; a due file could not be read; a file is refused; or a report
+pub data Outcome : Type 0 where
+  usage : Outcome
+  unreadable : (name : List ℕ) → Outcome
+  refused : FileFault → Outcome
+  reported : Report → Outcome
+
+-- the status of a report
+abbrev pub conclusion_status : Conclusion → ℕ
+conclusion_status NoVerdict = 0
+conclusion_status (Judged Pass) = 0
+conclusion_status (Judged (Fail number)) = 8
+conclusion_status (Judged Undecided) = 9
+
+-- the status of each outcome
+abbrev pub status_of : Outcome → ℕ
+status_of usage = 1
+status_of (unreadable name) = 2
+status_of (refused fault) = 3
+status_of (reported report) = conclusion_status report.conclusion
+
+-- the text of each outcome
+abbrev pub text_of : Outcome → List ℕ
+text_of usage = usage_text
+text_of (unreadable name) = unreadable_text name
+text_of (refused (too_long name)) = refused_text name too_long_text
+text_of (refused (table name fault)) = refused_text name (fault_text fault)
+text_of (refused (no_column name column)) = refused_text name (no_column_text column)
+text_of (reported report) = report.text
+
+-- the file that each outcome writes
+abbrev pub written_of : Outcome → Option (List ℕ × List ℕ)
+written_of usage = None
+written_of (unreadable name) = None
+written_of (refused fault) = None
+written_of (reported report) = report.written
+
+-- a command's report, or the refusal of a file
+abbrev pub outcome_of : Result Report FileFault → Outcome
+outcome_of (Ok report) = reported report
+outcome_of (Err fault) = refused fault
+
+-- what a refusal of the code stands for
+abbrev pub refusal_outcome : Refusal → Outcome
+refusal_outcome why.Usage = usage
+refusal_outcome (why.Unreadable name) = unreadable name.now
+refusal_outcome (why.TooLong name) = refused (too_long name.now)
+refusal_outcome (why.Table name fault) = refused (table name.now fault)
+refusal_outcome (why.NoColumn name column) = refused (no_column name.now column.now)

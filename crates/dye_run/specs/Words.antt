@@ -1,0 +1,28 @@
+-- Words of a command line.
+use Rattle.std.specs.Prelude.{ℕ, Bool, List, [], ◌∷◌, Option, Some, None, length, nat_le, ◌&&◌, if◌then◌else◌}
+use Rattle.dec_text.specs.Whole.{whole_number}
+
+-- a word that names a file has 1 to 255 bytes
+abbrev pub is_file_word : List ℕ → Bool
+is_file_word word = nat_le 1 (length word) && nat_le (length word) 255
+
+-- a number, where it lies in a range
+abbrev pub within : ℕ → ℕ → Option ℕ → Option ℕ
+within low high (Some n) = if nat_le low n && nat_le n high then Some n else None
+within low high None = None
+
+-- the number of a word of one to nine digits, where it lies in a range
+unfoldable pub number_in : ℕ → ℕ → List ℕ → Option ℕ
+number_in low high word = within low high (whole_number 9 word)
+
+-- a column of a curve file, under the light of a weights file
+pub record LitColumn : Type 0 where
+  pub curves : List ℕ
+  pub column : List ℕ
+  pub weights : List ℕ
+
+-- CURVES COLUMN WEIGHTS
+abbrev pub lit_column_of : List (List ℕ) → Option LitColumn
+lit_column_of (curves ∷ column ∷ weights ∷ []) =
+    if is_file_word curves && is_file_word weights then Some (record { curves = curves; column = column; weights = weights }) else None
+lit_column_of words = None

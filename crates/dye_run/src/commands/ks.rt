@@ -1,0 +1,92 @@
+//! `ks`: the K/S of one column.
+
+ghost use Rattle.std.specs.Prelude.{◌≡◌, IfOk, map, option_map, string_bytes};
+ghost use Rattle.dye_run.specs.Answers.{lines_of};
+ghost use Rattle.dye_run.specs.Asking.{ReadsDue};
+ghost use Rattle.dye_run.specs.Commands.{asking_of};
+ghost use Rattle.dye_run.specs.Forms as form;
+ghost use Rattle.dye_run.specs.Judging.{IsJudged, Reports};
+ghost use Rattle.dye_run.specs.Ks.{ks_evaluations, ks_report, ks_words};
+ghost use Rattle.dye_run.specs.Views.{ks_view};
+
+use crate::inputs::read_book;
+use crate::lines::push_line;
+use crate::report::Report;
+use crate::statuses::Conclusion;
+use crate::stop::Stop;
+use crate::tables::curve_from;
+use crate::words::names_file;
+use fix_bounds::Base;
+use shelf_io::Shelf;
+use spectral_tables::{Curve, CurveBook};
+use std::alloc::{AllocError, Global};
+
+/// The first wavelength of a curve, and the step from one to the next, in nanometres.
+const FIRST_WAVELENGTH: usize = 400;
+
+const WAVELENGTH_STEP: usize = 10;
+
+/// CURVES COLUMN.
+#[derive(Clone, Copy)]
+pub(crate) struct Ks<'a> {
+    curves: &'a str,
+    column: &'a str,
+}
+
+impl Ks<'_> {
+    pub(crate) fn of_words(words: &[String]) -> Option<Ks<'_>>
+        ensures { option_map ks_view result ≡ ks_words (map string_bytes words.now) }
+    {
+        match words {
+            [curves, column] if names_file(curves.as_str()) => Some(Ks {
+                curves: curves.as_str(),
+                column: column.as_str(),
+            }),
+            _ => None,
+        }
+    }
+}
+
+/// Reads the curves and reports the K/S of the column.
+pub(crate) fn judge<'a, H: Shelf>(
+    alloc: Global,
+    shelf: &mut H,
+    words: Ks<'a>,
+) -> Result<Report, Stop<'a>>
+    ensures judged { IsJudged (asking_of (form.ks (ks_view words.entry)))
+        (H.view shelf.old) (H.view shelf.new) result }
+    ensures reads { ReadsDue (asking_of (form.ks (ks_view words.entry)))
+        (H.view shelf.old) (H.view shelf.new) }
+{
+    let book = read_book(alloc, shelf, words.curves)?;
+    report(alloc, words, &book)
+}
+
+#[tactic(auto, unfolding(crate::specs::Ks::ks_report))]
+fn report<'a>(alloc: Global, words: Ks<'a>, book: &CurveBook) -> Result<Report, Stop<'a>>
+    ensures { Reports result (ks_report (ks_view words.entry) book.now) }
+{
+    let curve = curve_from(words.curves, words.column, book)?;
+    let text = ks_text(alloc, curve)?;
+    Ok(Report {
+        conclusion: Conclusion::NoVerdict,
+        text,
+    })
+}
+
+// A line for each wavelength of the curve, with its K/S at the base scale.
+fn ks_text(alloc: Global, curve: &Curve) -> Result<Vec<u8>, AllocError>
+    ensures { IfOk result (λ text. text.items ≡ lines_of (ks_evaluations 400 curve.now)) }
+{
+    let mut text = Vec::new(alloc);
+    for wave in 0..curve.waves() {
+        let wavelength = FIRST_WAVELENGTH + WAVELENGTH_STEP * wave;
+        let label = format!(in alloc; "{wavelength}")?;
+        push_line(
+            &mut text,
+            label.as_str(),
+            ks_curves::ks::<Base>(curve.at(wave)),
+        )?;
+    }
+    Ok(text)
+}

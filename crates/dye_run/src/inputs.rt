@@ -1,0 +1,105 @@
+//! The due files of a command, by their shape.
+
+ghost use Rattle.std.specs.Prelude.{◌≡◌, ◌≤◌, ◌+◌, ℕ, List, length, option_map, IfErr, IfOk, Result};
+ghost use Rattle.std.specs.Option.{ForSome};
+ghost use Rattle.shelf_io.specs.Changes.{HandsOut, OnlyReads};
+ghost use Rattle.spectral_tables.specs.CurveBook.{Book};
+ghost use Rattle.dye_run.specs.Answers.{Report};
+ghost use Rattle.dye_run.specs.Asking.{ReadsDue};
+ghost use Rattle.dye_run.specs.Due.{Comes};
+ghost use Rattle.dye_run.specs.Inputs as spec;
+ghost use Rattle.dye_run.specs.Inputs.{asks_book, asks_tables};
+ghost use Rattle.dye_run.specs.Judging.{Gives, HaveCome, IsInput, StopsAt};
+ghost use Rattle.dye_run.specs.Outcome.{FileFault};
+ghost use Rattle.dye_run.specs.Views.{tables_view};
+
+use crate::stop::Stop;
+use crate::tables::{TABLE_LIMIT, Tables, book_from, weights_from};
+use shade_report::Refusal;
+use shelf_io::{Shelf, TakeFault, take_file};
+use spectral_tables::CurveBook;
+use std::alloc::Global;
+
+// Reads a due file: its bytes, or `None` where it has more than `limit`.
+fn due<'a, H: Shelf>(
+    alloc: Global,
+    shelf: &mut H,
+    name: &'a str,
+    limit: u64,
+) -> Result<Option<Vec<u8>>, Stop<'a>>
+    ensures comes { IfOk result (λ came. Comes (H.view shelf.old).contents name.now limit
+        (option_map (λ bytes. bytes.items) came)) }
+    ensures stopped { IfErr result (StopsAt name.now (H.view shelf.old) (H.view shelf.new)) }
+    ensures only { OnlyReads (λ n. n ≡ name.now) (H.view shelf.old) (H.view shelf.new) }
+    ensures handed { HandsOut name.now (limit + 1) (H.view shelf.old) (H.view shelf.new) }
+{
+    match take_file(alloc, shelf, name, limit) {
+        Ok(bytes) => Ok(Some(bytes)),
+        Err(TakeFault::TooLong) => Ok(None),
+        Err(TakeFault::Fault) => Err(Stop::Refused(Refusal::Unreadable(name))),
+        Err(TakeFault::Memory) => Err(Stop::Memory),
+    }
+}
+
+/// Reads a file of curves, which is due, and its curves.
+pub(crate) fn read_book<'a, H: Shelf>(
+    alloc: Global,
+    shelf: &mut H,
+    curves: &'a str,
+) -> Result<CurveBook, Stop<'a>>
+    ensures input { (judged : Book → Result Report FileFault) →
+        IsInput (asks_book curves.now judged) judged (λ b. b)
+        (H.view shelf.old) (H.view shelf.new) result }
+    ensures reads { (judged : Book → Result Report FileFault) →
+        ReadsDue (asks_book curves.now judged) (H.view shelf.old) (H.view shelf.new) }
+{
+    let came = due(alloc, shelf, curves, TABLE_LIMIT)?;
+    book_from(alloc, curves, came.as_deref())
+}
+
+// What came of a file of curves and of one of weights.
+#[derive(Drop)]
+struct Both {
+    curves: Option<Vec<u8>>,
+    weights: Option<Vec<u8>>,
+}
+
+// The tables of both files, judged when both have come.
+#[tactic(auto, unfolding(crate::specs::Inputs::tables_from))]
+fn tables_from<'a>(
+    alloc: Global,
+    curves: &'a str,
+    weights: &'a str,
+    came: &Both,
+) -> Result<Tables, Stop<'a>>
+    requires curves { ForSome came.now.curves (λ bytes. length bytes.items ≤ 1000000) }
+    requires weights { ForSome came.now.weights (λ bytes. length bytes.items ≤ 1000000) }
+    ensures { Gives tables_view result (spec.tables_from curves.now weights.now
+        (option_map (λ b. b.items) came.now.curves) (option_map (λ b. b.items) came.now.weights)) }
+{
+    let book = book_from(alloc, curves, came.curves.as_deref())?;
+    let light = weights_from(alloc, weights, came.weights.as_deref())?;
+    Ok(Tables { book, light })
+}
+
+/// Reads a file of curves and then one of weights, which are both due, and their tables.
+pub(crate) fn read_tables<'a, H: Shelf>(
+    alloc: Global,
+    shelf: &mut H,
+    curves: &'a str,
+    weights: &'a str,
+) -> Result<Tables, Stop<'a>>
+    ensures input { (judged : spec.Tables → Result Report FileFault) →
+        IsInput (asks_tables curves.now weights.now judged) judged tables_view
+        (H.view shelf.old) (H.view shelf.new) result }
+    ensures reads { (judged : spec.Tables → Result Report FileFault) →
+        ReadsDue (asks_tables curves.now weights.now judged) (H.view shelf.old) (H.view shelf.new) }
+{
+    let first = due(alloc, shelf, curves, TABLE_LIMIT)?;
+    let second = due(alloc, shelf, weights, TABLE_LIMIT)?;
+    let came = Both {
+        curves: first,
+        weights: second,
+    };
+    tables_from(alloc, curves, weights, &came)
+}

@@ -1,0 +1,44 @@
+//! Each status of the program, once.
+
+ghost use Rattle.std.specs.Prelude.{◌≡◌};
+ghost use Rattle.dye_run.specs.Outcome.{conclusion_status, refusal_outcome, status_of};
+
+use metamerism::Verdict;
+use shade_report::Refusal;
+
+/// How a report ends.
+#[derive(Clone, Copy)]
+pub(crate) enum Conclusion {
+    /// It has no verdict.
+    NoVerdict,
+    /// It has this verdict.
+    Judged(Verdict),
+}
+
+/// The status where a put failed.
+pub(crate) const NOT_WRITTEN: u8 = 4;
+
+/// The status where memory ran out.
+pub(crate) const OUT_OF_MEMORY: u8 = 10;
+
+/// The status of a report.
+pub(crate) fn conclusion_status(conclusion: Conclusion) -> u8
+    ensures { result ≡ conclusion_status conclusion }
+{
+    match conclusion {
+        Conclusion::NoVerdict | Conclusion::Judged(Verdict::Pass) => 0,
+        Conclusion::Judged(Verdict::Fail(_)) => 8,
+        Conclusion::Judged(Verdict::Undecided) => 9,
+    }
+}
+
+/// The status of a refusal.
+pub(crate) fn refusal_status(refusal: &Refusal) -> u8
+    ensures { result ≡ status_of (refusal_outcome refusal.now) }
+{
+    match *refusal {
+        Refusal::Usage => 1,
+        Refusal::Unreadable(_) => 2,
+        Refusal::TooLong(_) | Refusal::Table(..) | Refusal::NoColumn(..) => 3,
+    }
+}

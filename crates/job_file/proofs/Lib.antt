@@ -1,0 +1,5 @@
+mod Documents
+mod NameFacts
+mod TableFacts
+mod StrengthFacts
+mod ResolveFacts

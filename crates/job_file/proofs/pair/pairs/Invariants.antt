@@ -1,0 +1,12 @@
+use Rattle.std.proofs.Common.{◌≡◌, All, [], drop, length, map}
+use Rattle.toml.specs.View.{table_view}
+use Rattle.job_file.specs.Arrays.{each}
+use Rattle.job_file.specs.Pair.{IsPair, next_pair}
+use Rattle.job_file.proofs.pair.pairs.Given as goal
+
+abbrev pub invariant-loop-table : goal.invariant-loop-table
+invariant-loop-table l = record {
+  so_far : each (next_pair l.dyes) l.pairs.items (map (λ t. table_view t.now) (drop l.table-index l.tables)) ≡ each (next_pair l.dyes) [] (map (λ t. table_view t.now) l.tables);
+  count : length l.pairs.items ≡ l.table-index;
+  names : All (IsPair l.dyes) l.pairs.items;
+}

@@ -1,0 +1,48 @@
+-- The batch that is to be corrected.
+use Rattle.std.specs.Prelude.{◌≡◌, ◌==◌, ◌&&◌, ℕ, Bool, nat_le, true, Result, Ok, List, [], ◌∷◌, length, codes}
+use Rattle.spectral_tables.specs.Name.{is_name}
+use Rattle.toml.specs.Data.{Members, as_integer}
+use Rattle.job_file.specs.declared.fault.JobFault.{JobFault}
+use Rattle.job_file.specs.declared.fault.JobRule.TheVariants.{BatchLength, OutOfRange}
+use Rattle.job_file.specs.declared.fault.Part.TheVariants.{Batch}
+use Rattle.job_file.specs.declared.fault.Place.{Place}
+use Rattle.job_file.specs.declared.batch.JobBatch.{JobBatch}
+use Rattle.job_file.specs.declared.dye.JobDye.{JobDye}
+use Rattle.job_file.specs.Arrays.{array_in, naturals_after}
+use Rattle.job_file.specs.Faults.{◌>>=◌, ◌>>◌, ensure, or_fault}
+use Rattle.job_file.specs.Keys.{Entries, name, only, required}
+
+-- each number of steps is at most the most of its dye
+abbrev pub are_within : List JobDye → List ℕ → Bool
+are_within [] steps = true
+are_within (d ∷ dyes) [] = true
+are_within (d ∷ dyes) (n ∷ steps) = nat_le n d.most && are_within dyes steps
+
+-- the numbers of steps of a required key, each 0 to 4,000
+unfoldable pub numbers_of_steps : List ℕ → Entries → Result (List ℕ) JobFault
+numbers_of_steps key t = do
+  value ← required key t
+  numbers ← array_in as_integer 1 12 t.place value
+  or_fault t.place OutOfRange (naturals_after 0 4000 [] numbers)
+
+-- its keys: the name of its curve, and the steps of each dye that are in the bath
+unfoldable pub batch : List JobDye → Entries → Result JobBatch JobFault
+batch dyes t = do
+  only (codes "curve" ∷ codes "steps" ∷ []) t
+  curve ← name (codes "curve") t
+  steps ← numbers_of_steps (codes "steps") t
+  ensure t.place BatchLength (length steps == length dyes)
+  ensure t.place OutOfRange (are_within dyes steps)
+  Ok (record { curve = curve; steps = record { items = steps } })
+
+abbrev pub batch_place : Place
+batch_place = record { part = Batch; item = 0; sub = 0 }
+
+abbrev pub batch_of : List JobDye → Members → Result JobBatch JobFault
+batch_of dyes members = batch dyes (record { place = batch_place; members = members })
+
+-- what a batch holds: a curve's name, and for each dye a number of steps up to its most
+pub record IsBatch (dyes : List JobDye) (b : JobBatch) : Type 0 where
+  pub curve : is_name b.curve ≡ true
+  pub count : length b.steps.items ≡ length dyes
+  pub within : are_within dyes b.steps.items ≡ true

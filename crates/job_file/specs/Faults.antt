@@ -1,0 +1,39 @@
+-- Reading a job from its first rule to its last, with the first fault that is met.
+use Rattle.std.specs.Prelude.{◌≡◌, Bool, Option, Some, None, Result, Ok, Err, if◌then◌else◌}
+use Rattle.job_file.specs.declared.fault.JobError.{JobError}
+use Rattle.job_file.specs.declared.fault.JobError.TheVariants as errors
+use Rattle.job_file.specs.declared.fault.JobFault.{JobFault}
+use Rattle.job_file.specs.declared.fault.JobRule.{JobRule}
+use Rattle.job_file.specs.declared.fault.Place.{Place}
+
+infixl 10 ◌>>=◌
+abbrev pub ◌>>=◌ : {A B : Type 0} → Result A JobFault → (A → Result B JobFault) → Result B JobFault
+(Ok x) >>= f = f x
+(Err fault) >>= f = Err fault
+
+infixl 10 ◌>>◌
+abbrev pub ◌>>◌ : {B : Type 0} → Result (Unit {0}) JobFault → Result B JobFault → Result B JobFault
+(Ok x) >> next = next
+(Err fault) >> next = Err fault
+
+-- the fault of a rule that is broken at a place
+abbrev pub fault_at : Place → JobRule → JobFault
+fault_at place rule = record { part = place.part; item = place.item; sub = place.sub; rule = rule }
+
+-- the value, or where there is none the fault of a rule
+abbrev pub or_fault : {A : Type 0} → Place → JobRule → Option A → Result A JobFault
+or_fault place rule None = Err (fault_at place rule)
+or_fault place rule (Some x) = Ok x
+
+-- that a rule holds
+abbrev pub ensure : Place → JobRule → Bool → Result (Unit {0}) JobFault
+ensure place rule holds = if holds then Ok tt else Err (fault_at place rule)
+
+-- what a call answers, seen by view, is what reading gives, unless memory ran out
+abbrev pub Fails : {Y : Type 0} → JobError → Result Y JobFault → Type 0
+Fails errors.Memory read = Unit {0}
+Fails (errors.Fault fault) read = read ≡ Err fault
+
+abbrev pub Gives : {X Y : Type 0} → (X → Y) → Result X JobError → Result Y JobFault → Type 0
+Gives view (Ok x) read = read ≡ Ok (view x)
+Gives view (Err error) read = Fails error read

@@ -1,0 +1,19 @@
+-- What the type of jobs keeps.
+use Rattle.std.specs.Prelude.{◌≤◌, List, All, length}
+use Rattle.job_file.specs.declared.dye.JobDye.{JobDye}
+use Rattle.job_file.specs.declared.light.JobLight.{JobLight}
+use Rattle.job_file.specs.Dye.{IsDye, NamesDiffer}
+use Rattle.job_file.specs.Light.{IsLight}
+
+-- one or two lights, each in its ranges
+pub record AreLights (lights : List JobLight) : Type 0 where
+  pub some : 1 ≤ length lights
+  pub few : length lights ≤ 2
+  pub range : All IsLight lights
+
+-- one to twelve dyes, each in its ranges, no two of one name
+pub record AreDyes (dyes : List JobDye) : Type 0 where
+  pub some : 1 ≤ length dyes
+  pub few : length dyes ≤ 12
+  pub range : All IsDye dyes
+  pub differ : NamesDiffer dyes

@@ -1,0 +1,105 @@
+-- What a job comes to over the curves of a file: each name of a curve stands for that curve, and a recipe of all dyes at
+-- their most steps must not be too strong.
+use Rattle.std.specs.Prelude.{◌+◌, ◌*◌, ◌^◌, ℕ, pos, Bool, not, int_lt, Option, Some, None, Result, Ok, List, [], ◌∷◌, length, map, if◌then◌else◌}
+use Rattle.std.specs.List.{list_any}
+use Rattle.std.specs.Str.{bytes_eq}
+use Rattle.ks_curves.specs.Dye.{Dyeing as Measured, DyeData}
+use Rattle.mix_model.specs.Base.{base_at}
+use Rattle.mix_model.specs.Mixture.{mixture_ks_at, portions}
+use Rattle.price_grid.specs.declared.dye_cost.DyeCost.{DyeCost}
+use Rattle.price_grid.specs.Limits.{LimitsView}
+use Rattle.spectral_tables.specs.CurveBook.{Book, curve_named}
+use Rattle.spectral_tables.specs.WeightTable.{WeightTable}
+use Rattle.job_file.specs.declared.dye.JobDye.{JobDye}
+use Rattle.job_file.specs.declared.dyeing.JobDyeing.{JobDyeing}
+use Rattle.job_file.specs.declared.fault.JobFault.{JobFault}
+use Rattle.job_file.specs.declared.fault.JobRule.TheVariants.{TooStrong, UnknownColumn}
+use Rattle.job_file.specs.declared.fault.Part.TheVariants.{Dyeing}
+use Rattle.job_file.specs.declared.fault.Place.{Place}
+use Rattle.job_file.specs.declared.pair.JobPair.{JobPair}
+use Rattle.job_file.specs.Arrays.{each, if_there}
+use Rattle.job_file.specs.Batch.{batch_place}
+use Rattle.job_file.specs.Faults.{◌>>=◌, ◌>>◌, ensure, or_fault}
+use Rattle.job_file.specs.Job.{Values, job_place}
+
+-- the curve of a name, which the book must have
+abbrev pub curve_of : Book → Place → List ℕ → Result (List ℕ) JobFault
+curve_of book place name = or_fault place UnknownColumn (curve_named name book)
+
+-- the dyeing of the dye of this number after those before it, with its curve
+abbrev pub next_measured : Book → ℕ → List Measured → JobDyeing → Result Measured JobFault
+next_measured book dye before d = do
+  curve ← curve_of book (record { part = Dyeing; item = dye; sub = length before + 1 }) d.curve
+  Ok (d.units, curve)
+
+-- the dye after those before it, calibrated on the substrate
+abbrev pub next_calibrated : Book → List ℕ → List DyeData → JobDye → Result DyeData JobFault
+next_calibrated book substrate before d = do
+  dyeings ← each (next_measured book (length before + 1)) [] d.dyeing.items
+  Ok (record { step = d.step; substrate = substrate; dyeings = dyeings })
+
+-- what a dye costs, and how much of it may be weighed out
+abbrev pub cost_of_dye : JobDye → DyeCost
+cost_of_dye d = record { step = d.step; least = d.least; most = d.most; price = d.price; fee = d.fee }
+
+-- the number of the first dye of a name, counted from 1: one more than there are dyes where none has it
+abbrev pub number_of : List JobDye → List ℕ → ℕ
+number_of [] name = 1
+number_of (d ∷ dyes) name = if bytes_eq d.name name then 1 else (number_of dyes name + 1)
+
+abbrev pub numbers_of : List JobDye → JobPair → ℕ × ℕ
+numbers_of dyes p = (number_of dyes p.a, number_of dyes p.b)
+
+-- the limits of a job, over a bath without dye
+abbrev pub limits_of : Values → LimitsView
+limits_of j = record {
+  max_dyes = j.head.max_dyes;
+  max_total = j.head.max_total;
+  max_cost = j.head.max_cost;
+  pairs = map (numbers_of j.dye) j.pair;
+  bath = map (λ d. 0) j.dye;
+}
+
+-- the most steps of each dye
+abbrev pub most_steps : List JobDye → List ℕ
+most_steps dyes = map (λ d. d.most) dyes
+
+-- what dyes are added to: the cloth of the batch where there is one, and else the undyed cloth
+abbrev pub base_curve : List ℕ → Option (List ℕ) → List ℕ
+base_curve substrate None = substrate
+base_curve substrate (Some batch) = batch
+
+-- at some wavelength the K/S of a recipe is above 10^6, at the base scale
+unfoldable pub is_too_strong : List ℕ → List DyeData → List ℕ → Bool
+is_too_strong base dyes steps =
+    list_any (λ q. int_lt (pos (10 ^ 6 * 10 ^ 12)) q.hi) (mixture_ks_at (10 ^ 12) (base_at (10 ^ 12) base) (portions dyes steps steps))
+
+-- what a job comes to
+pub record ResolvedJob : Type 0 where
+  pub job : Values
+  pub substrate : List ℕ
+  pub standard : List ℕ
+  pub dyes : List DyeData
+  pub grid : List DyeCost
+  pub limits : LimitsView
+  pub weights : List WeightTable
+  pub batch : Option (List ℕ)
+
+-- the first name without a curve: of the substrate, of the standard, of the dyeings in turn, of the batch; then the strength
+unfoldable pub resolved_job : Book → Values → List WeightTable → Result ResolvedJob JobFault
+resolved_job book j weights = do
+  substrate ← curve_of book job_place j.head.substrate
+  standard ← curve_of book job_place j.head.standard
+  dyes ← each (next_calibrated book substrate) [] j.dye
+  batch ← if_there (λ b. curve_of book batch_place b.curve) j.batch
+  ensure job_place TooStrong (not (is_too_strong (base_curve substrate batch) dyes (most_steps j.dye)))
+  Ok (record {
+    job = j;
+    substrate = substrate;
+    standard = standard;
+    dyes = dyes;
+    grid = map cost_of_dye j.dye;
+    limits = limits_of j;
+    weights = weights;
+    batch = batch;
+  })

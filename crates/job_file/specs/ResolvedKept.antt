@@ -1,0 +1,23 @@
+-- What the type of resolved jobs keeps.
+use Rattle.std.specs.Prelude.{◌≡◌, false, All, IfSome, length, map}
+use Rattle.std.specs.List.{AllZip}
+use Rattle.price_grid.specs.Grid.{IsRecipe}
+use Rattle.price_grid.specs.Limits.{FitGrid}
+use Rattle.job_file.specs.Resolve.{ResolvedJob, base_curve, is_too_strong}
+
+-- all that a resolved job holds has the same number of wavelengths
+pub record HaveEqualWaves (r : ResolvedJob) : Type 0 where
+  pub standard : length r.standard ≡ length r.substrate
+  pub batch : IfSome r.batch (λ c. length c ≡ length r.substrate)
+  pub dyes : All (λ d. length d.substrate ≡ length r.substrate) r.dyes
+  pub weights : All (λ w. length w.weights ≡ length r.substrate) r.weights
+
+-- one dye for each of the grid, with the same step; weights for each light; limits and a bath that fit the grid; and a
+-- recipe of all dyes at their most steps is not too strong
+pub record IsResolved (r : ResolvedJob) : Type 0 where
+  pub steps : AllZip (λ dye cost. dye.step ≡ cost.step) r.dyes r.grid
+  pub lights : length r.weights ≡ length r.job.light
+  pub limits_fit : FitGrid r.grid r.limits
+  pub bath_fits : IfSome r.job.batch (λ b. IsRecipe r.grid b.steps.items)
+  pub weak : is_too_strong (base_curve r.substrate r.batch) r.dyes (map (λ cost. cost.most) r.grid) ≡ false
+  pub waves : HaveEqualWaves r

@@ -1,0 +1,124 @@
+//! The batch of a job that is to be corrected.
+
+ghost use Rattle.std.specs.Prelude.{◌≡◌, ◌≤◌, IfOk, IfSome, [], length, option_map};
+ghost use Rattle.toml.specs.Data.{as_integer};
+ghost use Rattle.toml.specs.View.{items_view, table_view};
+ghost use Rattle.job_file.specs.Arrays.{all_after, if_there, naturals_after};
+ghost use Rattle.job_file.specs.Batch.{IsBatch, are_within, batch, batch_of, numbers_of_steps};
+ghost use Rattle.job_file.specs.Faults.{Gives, or_fault};
+ghost use Rattle.job_file.specs.Keys.{entries_of};
+
+use crate::arrays::count_in;
+use crate::dye::JobDye;
+use crate::fault::{JobError, JobRule, Part, Place};
+use crate::keys::natural_in;
+use crate::section::Section;
+use crate::text::Text;
+use price_grid::Steps;
+use std::alloc::Global;
+use toml::{Table, Value};
+
+/// The batch that came out wrong: its measured curve, and the steps of each dye that are in its
+/// bath.
+#[derive(Debug, Default, Drop)]
+pub struct JobBatch {
+    /// The name of its measured curve.
+    pub curve: Text,
+    /// The steps of each dye, in the order of the dyes.
+    pub steps: Steps,
+}
+
+/// The whole numbers among the values, if all are whole numbers.
+fn all_numbers(alloc: Global, place: Place, values: &[Value]) -> Result<Vec<i64>, JobError>
+    ensures { Gives (λ v. v.items) result
+        (or_fault place JobRule.WrongKind (all_after as_integer [] (items_view values.now))) }
+{
+    let mut numbers = Vec::new(alloc);
+    for value in values {
+        let number = value.as_integer().ok_or(place.fault(JobRule::WrongKind))?;
+        if numbers.push(number).is_err() {
+            return Err(JobError::Memory);
+        }
+    }
+    Ok(numbers)
+}
+
+/// The numbers as steps, each 0 to 4,000.
+fn steps_of(place: Place, numbers: &[i64]) -> Result<Steps, JobError>
+    requires { length numbers.now ≤ 12 }
+    ensures { Gives (λ s. s.items) result
+        (or_fault place JobRule.OutOfRange (naturals_after 0 4000 [] numbers.now)) }
+{
+    let mut steps = Steps::new();
+    for number in numbers {
+        let n = natural_in(0, 4000, *number).ok_or(place.fault(JobRule::OutOfRange))?;
+        steps.push(n as u16);
+    }
+    Ok(steps)
+}
+
+/// The steps of a required key: one to twelve whole numbers, each 0 to 4,000.
+#[tactic(auto, unfolding(crate::specs::Batch::numbers_of_steps))]
+fn numbers_of_steps(alloc: Global, table: &Section, key: &str) -> Result<Steps, JobError>
+    ensures { Gives (λ s. s.items) result (numbers_of_steps key.now (entries_of table.now)) }
+{
+    let value = table.required(key)?;
+    let items = value
+        .as_array()
+        .ok_or(table.place.fault(JobRule::WrongKind))?;
+    let numbers = all_numbers(alloc, table.place, items.as_slice())?;
+    count_in(table.place, 1, 12, numbers.len())?;
+    steps_of(table.place, &numbers)
+}
+
+/// Whether each number of steps is at most the most of its dye.
+fn are_within(dyes: &[JobDye], steps: &[u16]) -> bool
+    requires { length steps.now ≡ length dyes.now }
+    ensures is { result ≡ are_within dyes.now steps.now }
+{
+    for (i, dye) in dyes.iter().enumerate() {
+        if steps[i] > dye.most {
+            return false;
+        }
+    }
+    true
+}
+
+/// Reads the batch, over these dyes.
+#[tactic(auto, unfolding(crate::specs::Batch::batch))]
+fn batch(alloc: Global, dyes: &[JobDye], table: &Section) -> Result<JobBatch, JobError>
+    ensures is { Gives (λ b. b) result (batch dyes.now (entries_of table.now)) }
+    ensures range { IfOk result (IsBatch dyes.now) }
+{
+    table.only(&["curve", "steps"])?;
+    let curve = table.name(alloc, "curve")?;
+    let steps = numbers_of_steps(alloc, table, "steps")?;
+    table
+        .place
+        .ensure(steps.len() == dyes.len(), JobRule::BatchLength)?;
+    let fits = are_within(dyes, steps.as_slice());
+    table.place.ensure(fits, JobRule::OutOfRange)?;
+    Ok(JobBatch { curve, steps })
+}
+
+/// Reads the batch, if there is one.
+pub(crate) fn batch_of(
+    alloc: Global,
+    dyes: &[JobDye],
+    table: Option<&Table>,
+) -> Result<Option<JobBatch>, JobError>
+    ensures is { Gives (λ b. b) result
+        (if_there (batch_of dyes.now) (option_map (λ t. table_view t.now) table.entry)) }
+    ensures range { IfOk result (λ o. IfSome o (IsBatch dyes.now)) }
+{
+    let Some(table) = table else {
+        return Ok(None);
+    };
+    let place = Place {
+        part: Part::Batch,
+        item: 0,
+        sub: 0,
+    };
+    let read = batch(alloc, dyes, &Section { place, table })?;
+    Ok(Some(read))
+}

@@ -1,0 +1,117 @@
+//! Why a job is refused, and where.
+
+ghost use Rattle.std.specs.Prelude.{◌≡◌, Err};
+ghost use Rattle.job_file.specs.Faults.{Gives, ensure, fault_at};
+
+use std::alloc::AllocError;
+use thiserror::Error;
+
+/// A part of a job.
+#[derive(Clone, Copy, Debug, PartialEq, Eq)]
+pub enum Part {
+    /// The table of the whole document.
+    Job,
+    /// A light.
+    Light,
+    /// A dye.
+    Dye,
+    /// A dyeing of a dye.
+    Dyeing,
+    /// A pair of dyes that may not stand together.
+    Pair,
+    /// The batch that is to be corrected.
+    Batch,
+}
+
+/// A rule that a job breaks.
+#[derive(Clone, Copy, Debug, PartialEq, Eq)]
+pub enum JobRule {
+    /// The bytes are no TOML document.
+    NotToml,
+    /// The version is not 1.
+    NotVersion1,
+    /// A key that this part does not have.
+    UnknownKey,
+    /// A required key is absent.
+    MissingKey,
+    /// A value of another kind.
+    WrongKind,
+    /// A number or a text out of its range.
+    OutOfRange,
+    /// An array with too few or too many items.
+    BadCount,
+    /// An earlier dye has the same name.
+    DoubleDye,
+    /// A pair names a dye that the job has not.
+    UnknownDye,
+    /// A pair names one dye twice.
+    SamePair,
+    /// The batch has not one number of steps for each dye.
+    BatchLength,
+    /// The steps of a dye weigh more than 20,000 units together.
+    TooWide,
+    /// The curve file has no such curve.
+    UnknownColumn,
+    /// The K/S of all dyes at their most steps is above 1,000,000.
+    TooStrong,
+}
+
+/// The first fault of a job. Items count from 1: `item` is the number of a light, a dye or a pair,
+/// `sub` that of a dyeing of the dye `item`; else they are 0.
+#[derive(Clone, Copy, Debug, PartialEq, Eq)]
+pub struct JobFault {
+    pub part: Part,
+    pub item: u32,
+    pub sub: u32,
+    pub rule: JobRule,
+}
+
+/// Why a job has no value.
+#[derive(Debug, Drop, Error)]
+pub enum JobError {
+    /// The first fault of the job.
+    #[error("the job breaks a rule")]
+    Fault(JobFault),
+    /// Memory ran out.
+    #[error("out of memory")]
+    Memory,
+}
+
+impl From<AllocError> for JobError {
+    ghost use Rattle.job_file.specs.declared.fault.JobError.TheVariants.{Memory};
+
+    ghost from_gives = { λ _ e. e ≡ Memory };
+
+    fn from(_e: AllocError) -> JobError {
+        JobError::Memory
+    }
+}
+
+/// Where a table of a job stands.
+#[derive(Clone, Copy, Debug, PartialEq, Eq)]
+pub(crate) struct Place {
+    pub part: Part,
+    pub item: u32,
+    pub sub: u32,
+}
+
+impl Place {
+    /// The fault of a rule that is broken here.
+    pub(crate) fn fault(self, rule: JobRule) -> JobError
+        ensures { result ≡ JobError.Fault (fault_at self rule) }
+    {
+        JobError::Fault(JobFault {
+            part: self.part,
+            item: self.item,
+            sub: self.sub,
+            rule,
+        })
+    }
+
+    /// That a rule holds here.
+    pub(crate) fn ensure(self, holds: bool, rule: JobRule) -> Result<(), JobError>
+        ensures { Gives (λ x. x) result (ensure self rule holds) }
+    {
+        if holds { Ok(()) } else { Err(self.fault(rule)) }
+    }
+}

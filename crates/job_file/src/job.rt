@@ -1,0 +1,61 @@
+//! A job as its file gives it.
+
+ghost use Rattle.std.specs.Prelude.{All, IfSome};
+ghost use Rattle.std.proofs.Props.{props};
+ghost use Rattle.job_file.specs.Batch.{IsBatch};
+ghost use Rattle.job_file.specs.Kept.{AreDyes, AreLights};
+ghost use Rattle.job_file.specs.Pair.{IsPair};
+ghost use Rattle.job_file.specs.Top.{IsHead};
+
+use crate::batch::JobBatch;
+use crate::dye::JobDye;
+use crate::light::JobLight;
+use crate::pair::JobPair;
+use crate::text::Text;
+use arrayvec::ArrayVec;
+
+/// A job: the curves, the lights and the dyes that a recipe is looked for with, and what it may be.
+#[derive(Debug, Drop)]
+pub struct Job {
+    /// The version of the format, 1.
+    pub version: u32,
+    /// The file of curves.
+    pub curves: Text,
+    /// The name of the curve of the undyed cloth.
+    pub substrate: Text,
+    /// The name of the curve that is to be matched.
+    pub standard: Text,
+    /// The kilograms of cloth, 1 to 100,000.
+    pub load: u32,
+    /// The most dyes of a recipe, 1 to 12.
+    pub max_dyes: u8,
+    /// The most units of all dyes of a recipe together, 1 to 240,000.
+    pub max_total: u32,
+    /// The highest cost of a recipe, up to 10^15 cost units.
+    pub max_cost: Option<u64>,
+    /// How many boxes of recipes the search may judge, 1 to 1,000,000.
+    pub budget: u32,
+    /// The lights, one or two.
+    pub light: ArrayVec<JobLight, 4>,
+    /// The dyes, one to twelve, no two of one name.
+    pub dye: ArrayVec<JobDye, 12>,
+    /// The pairs of dyes that may not stand together, up to 66.
+    pub pair: ArrayVec<JobPair, 66>,
+    /// The batch that is to be corrected, if there is one.
+    pub batch: Option<JobBatch>,
+
+    pub ghost head: { IsHead (record {
+      curves = curves;
+      substrate = substrate;
+      standard = standard;
+      load = load;
+      max_dyes = max_dyes;
+      max_total = max_total;
+      max_cost = max_cost;
+      budget = budget;
+    }) } by { Prim.hlevel props },
+    pub ghost lights: { AreLights light.items } by { Prim.hlevel props },
+    pub ghost dyes: { AreDyes dye.items } by { Prim.hlevel props },
+    pub ghost pairs: { All (IsPair dye.items) pair.items } by { Prim.hlevel props },
+    pub ghost bath: { IfSome batch (IsBatch dye.items) } by { Prim.hlevel props },
+}

@@ -1,0 +1,78 @@
+//! A pair of dyes of a job.
+
+ghost use Rattle.std.specs.Prelude.{◌≡◌, ◌≤◌, All, IfOk, [], length, map};
+ghost use Rattle.toml.specs.View.{table_view};
+ghost use Rattle.job_file.specs.Arrays.{each};
+ghost use Rattle.job_file.specs.Faults.{Gives};
+ghost use Rattle.job_file.specs.Keys.{entries_of};
+ghost use Rattle.job_file.specs.Pair.{IsPair, next_pair, pair};
+
+use crate::dye::{JobDye, has_dye};
+use crate::fault::{JobError, JobRule, Part, Place};
+use crate::section::Section;
+use crate::text::Text;
+use arrayvec::ArrayVec;
+use std::alloc::Global;
+use toml::Table;
+
+/// Two dyes that may not stand together, by their names.
+#[derive(Debug, Default, Drop)]
+pub struct JobPair {
+    pub a: Text,
+    pub b: Text,
+}
+
+/// Reads a pair of these dyes.
+#[tactic(auto, unfolding(crate::specs::Pair::pair))]
+fn pair(alloc: Global, dyes: &[JobDye], table: &Section) -> Result<JobPair, JobError>
+    ensures is { Gives (λ p. p) result (pair dyes.now (entries_of table.now)) }
+    ensures names { IfOk result (IsPair dyes.now) }
+{
+    table.only(&["a", "b"])?;
+    let a = table.name(alloc, "a")?;
+    let b = table.name(alloc, "b")?;
+    let known = has_dye(dyes, a.as_str()) && has_dye(dyes, b.as_str());
+    table.place.ensure(known, JobRule::UnknownDye)?;
+    table
+        .place
+        .ensure(!(a.as_str() == b.as_str()), JobRule::SamePair)?;
+    Ok(JobPair { a, b })
+}
+
+/// Reads the pair after those before it.
+fn next_pair(
+    alloc: Global,
+    dyes: &[JobDye],
+    before: &[JobPair],
+    table: &Table,
+) -> Result<JobPair, JobError>
+    requires { length before.now ≤ 66 }
+    ensures is { Gives (λ p. p) result (next_pair dyes.now before.now (table_view table.now)) }
+    ensures names { IfOk result (IsPair dyes.now) }
+{
+    let place = Place {
+        part: Part::Pair,
+        item: before.len() as u32 + 1,
+        sub: 0,
+    };
+    pair(alloc, dyes, &Section { place, table })
+}
+
+/// Reads the pairs in turn.
+pub(crate) fn pairs(
+    alloc: Global,
+    dyes: &[JobDye],
+    tables: &[&Table],
+) -> Result<ArrayVec<JobPair, 66>, JobError>
+    requires { length tables.now ≤ 66 }
+    ensures is { Gives (λ v. v.items) result
+        (each (next_pair dyes.now) [] (map (λ t. table_view t.now) tables.now)) }
+    ensures names { IfOk result (λ v. All (IsPair dyes.now) v.items) }
+{
+    let mut pairs = ArrayVec::new();
+    for table in tables {
+        let next = next_pair(alloc, dyes, pairs.as_slice(), *table)?;
+        pairs.push(next);
+    }
+    Ok(pairs)
+}

@@ -1,0 +1,84 @@
+//! Finding the curves of a job.
+
+ghost use Rattle.std.specs.Prelude.{◌≡◌, IfOk, IfSome, All, length, vec_len};
+ghost use Rattle.spectral_tables.specs.CurveBook.{wave_count};
+ghost use Rattle.job_file.specs.Arrays.{if_there};
+ghost use Rattle.job_file.specs.Batch.{batch_place};
+ghost use Rattle.job_file.specs.Faults.{Gives};
+ghost use Rattle.job_file.specs.JobView.{job_view};
+ghost use Rattle.job_file.specs.Resolve.{base_curve, curve_of, resolved_job};
+ghost use Rattle.job_file.specs.ResolvedView.{resolved_view};
+
+use crate::batch::JobBatch;
+use crate::calibrated::{calibrated, curve_of};
+use crate::fault::{JobError, JobRule, Part, Place};
+use crate::job::Job;
+use crate::limits::{grid_of, limits_of, most_steps};
+use crate::lists::{DyeList, WeightsList};
+use crate::read::JOB_PLACE;
+use crate::resolved::Resolved;
+use crate::strength::is_too_strong;
+use spectral_tables::{Curve, CurveBook, Weights};
+use std::alloc::Global;
+
+/// The cloth of the batch, if there is one.
+fn batch_curve(book: &CurveBook, batch: &Option<JobBatch>) -> Result<Option<Curve>, JobError>
+    ensures is { Gives (λ c. c) result (if_there (λ b. curve_of book.now batch_place b.curve) batch.now) }
+    ensures waves { IfOk result (λ o. IfSome o (λ c. length c ≡ wave_count book.now)) }
+{
+    let Some(batch) = batch else {
+        return Ok(None);
+    };
+    let place = Place {
+        part: Part::Batch,
+        item: 0,
+        sub: 0,
+    };
+    let curve = curve_of(book, place, batch.curve.as_str())?;
+    Ok(Some(curve))
+}
+
+/// What dyes are added to: the cloth of the batch, or the undyed cloth.
+fn base_curve<'a>(substrate: &'a Curve, batch: &'a Option<Curve>) -> &'a Curve
+    ensures { result.now ≡ base_curve substrate.now batch.now }
+{
+    match batch {
+        Some(curve) => curve,
+        None => substrate,
+    }
+}
+
+/// Finds the curves of a job in the curves of its file, and its dyes, its grid and its limits, or
+/// the first name without a curve. The weights are those of its lights, in their order.
+#[tactic(auto, unfolding(crate::specs::Resolve::resolved_job))]
+pub fn resolve(
+    alloc: Global,
+    job: Job,
+    book: &CurveBook,
+    weights: Vec<Weights>,
+) -> Result<Resolved, JobError>
+    requires lights { vec_len weights ≡ length job.light.items }
+    requires waves { All (λ w. length w.weights ≡ wave_count book.now) weights.items }
+    ensures { Gives resolved_view result (resolved_job book.now (job_view job) weights.items) }
+{
+    let substrate = curve_of(book, JOB_PLACE, job.substrate.as_str())?;
+    let standard = curve_of(book, JOB_PLACE, job.standard.as_str())?;
+    let dyes = calibrated(alloc, book, &substrate, job.dye.as_slice())?;
+    let batch = batch_curve(book, &job.batch)?;
+    let most = most_steps(job.dye.as_slice());
+    let base = base_curve(&substrate, &batch);
+    let strong = is_too_strong(base, &dyes, most.as_slice());
+    JOB_PLACE.ensure(!strong, JobRule::TooStrong)?;
+    let grid = grid_of(job.dye.as_slice());
+    let limits = limits_of(&job);
+    Ok(Resolved {
+        job,
+        substrate,
+        standard,
+        dyes: DyeList::of(dyes),
+        grid,
+        limits,
+        weights: WeightsList::of(weights),
+        batch,
+    })
+}

@@ -1,0 +1,7 @@
+pub mod Additions
+pub mod ContributionLaws
+pub mod Nearness
+pub mod Ranges
+mod Shares
+mod Sums
+mod Values

@@ -1,0 +1,5 @@
+pub mod KubelkaMunk
+pub mod Dye
+pub mod Calibration
+pub mod Slope
+pub mod Laws

@@ -1,0 +1,50 @@
+use super::*;
+use arrayvec::ArrayVec;
+use fix_bounds::{Base, Iv, Quick, Scale};
+use spectral_tables::Curve;
+
+fn ends<S: Scale>(iv: Iv<S>) -> (i128, i128) {
+    (iv.lo(), iv.hi())
+}
+
+#[test]
+fn a_dye_of_one_dyeing(rt: HostRuntime) {
+    let mut dyeings = ArrayVec::new();
+    dyeings.push((1000, Curve::of(&[300_000; 31])));
+    let dye = Dye::of(10, Curve::of(&[500_000; 31]), dyeings);
+    let mut lighter = ArrayVec::new();
+    lighter.push((1000, Curve::of(&[1_000_000; 31])));
+    let lightening = Dye::of(10, Curve::of(&[500_000; 31]), lighter);
+    for (name, iv, lo, hi) in [
+        ("K/S", ks::<Base>(300_000), 816_666_666_666, 816_666_666_667),
+        ("no step", contribution(&dye, 0, 7), 0, 0),
+        (
+            "a step",
+            contribution(&dye, 1, 0),
+            5_666_666_666,
+            5_666_666_667,
+        ),
+        (
+            "a hundred",
+            contribution(&dye, 100, 30),
+            566_666_666_666,
+            566_666_666_667,
+        ),
+        (
+            "0 to 4",
+            contribution_range(&dye, 0, 4, 30),
+            0,
+            22_666_666_667,
+        ),
+        (
+            "below the substrate",
+            contribution(&lightening, 100, 7),
+            0,
+            0,
+        ),
+    ] {
+        assert_eq!(rt; ends(iv), (lo, hi), "at {name}");
+    }
+    assert_eq!(rt; ends(contribution::<Quick>(&dye, 1, 0)), (566_666, 566_667));
+    assert_eq!(rt; (dye.waves(), dye.step()), (31, 10));
+}

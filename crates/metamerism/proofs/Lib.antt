@@ -1,0 +1,6 @@
+pub mod DifferenceLaws
+pub mod VerdictLaws
+mod Standing
+mod Lists
+mod Verdicts
+mod VerdictMeaning

@@ -1,0 +1,5 @@
+pub mod Difference
+pub mod Few
+pub mod Lights
+pub mod Verdicts
+pub mod Laws

@@ -1,0 +1,37 @@
+//! What comes of a comparison under lights.
+
+use arrayvec::ArrayVec;
+use fix_bounds::{Iv, Scale};
+
+/// The differences of a sample under the lights, in their order.
+#[derive(Drop)]
+pub struct Deltas<S: Scale> {
+    pub each: ArrayVec<Iv<S>, 4>,
+}
+
+/// What is said of a sample against the tolerances of the lights.
+#[derive(Clone, Copy, Debug, PartialEq, Eq)]
+pub enum Verdict {
+    /// Under every light the upper end of the difference is within the tolerance.
+    Pass,
+    /// Under the light of this number, the first of them from 1 on, the lower end is above the
+    /// tolerance.
+    Fail(u8),
+    /// No light fails, but the tolerance of one lies within the ends of its difference.
+    Undecided,
+}
+
+impl Verdict {
+    ghost use Rattle.std.specs.Prelude.{◌≡◌};
+    ghost use Rattle.metamerism.specs.Verdicts.{joint};
+
+    /// The verdict on the lights of both, those of `after` being numbered after the others.
+    pub(crate) fn joint(self, after: Verdict) -> Verdict
+        ensures { result ≡ joint self after }
+    {
+        match (self, after) {
+            (Verdict::Pass, _) | (Verdict::Undecided, Verdict::Fail(_)) => after,
+            (Verdict::Fail(_) | Verdict::Undecided, _) => self,
+        }
+    }
+}

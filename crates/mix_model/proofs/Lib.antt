@@ -1,0 +1,7 @@
+mod BaseFacts
+pub mod ReflectanceRanges
+pub mod ReflectanceLaws
+pub mod MixtureLaws
+mod Portions
+mod QuickScale
+mod Examples

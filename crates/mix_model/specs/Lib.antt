@@ -1,0 +1,4 @@
+pub mod Reflectance
+pub mod Base
+pub mod Mixture
+pub mod Laws

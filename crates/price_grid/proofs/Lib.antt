@@ -1,0 +1,5 @@
+pub mod CostLaws
+mod GridFacts
+mod LimitLaws
+mod SumFacts
+mod WordFacts

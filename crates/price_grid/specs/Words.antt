@@ -1,0 +1,33 @@
+-- Recipes in a word of the command line.
+use Rattle.std.specs.Prelude.{◌==◌, ℕ, Bool, nat_le, Option, Some, None, option_and_then, option_map, List, [], ◌∷◌, if◌then◌else◌}
+use Rattle.std.specs.List.{slice_split}
+use Rattle.dec_text.specs.Whole.{whole_number}
+use Rattle.price_grid.specs.declared.dye_cost.DyeCost.{DyeCost}
+
+abbrev pub is_comma : ℕ → Bool
+is_comma byte = byte == 44
+
+-- the steps of a dye that a text spells: one to four digits, with leading zeros or not, and up to the most of the dye
+abbrev pub steps_of_dye : DyeCost → List ℕ → Option ℕ
+steps_of_dye dye text = option_and_then (λ n. if nat_le n dye.most then Some n else None) (whole_number 4 text)
+
+-- the recipe with this number of steps of its first dye, if there are both
+abbrev pub with_first : Option ℕ → Option (List ℕ) → Option (List ℕ)
+with_first None steps = None
+with_first (Some n) steps = option_map (λ rest. n ∷ rest) steps
+
+-- the recipe that texts spell, one for each dye
+abbrev pub steps_of_texts : List DyeCost → List (List ℕ) → Option (List ℕ)
+steps_of_texts [] [] = Some []
+steps_of_texts [] (text ∷ texts) = None
+steps_of_texts (dye ∷ dyes) [] = None
+steps_of_texts (dye ∷ dyes) (text ∷ texts) = with_first (steps_of_dye dye text) (steps_of_texts dyes texts)
+
+-- the recipe that a word spells: the numbers of its dyes, with a comma between each two
+abbrev pub steps_of_word : List DyeCost → List ℕ → Option (List ℕ)
+steps_of_word dyes word = steps_of_texts dyes (slice_split is_comma word)
+
+-- the parts of what follows a comma; there are none where no comma stood
+abbrev pub parts_behind : Option (List ℕ) → List (List ℕ)
+parts_behind None = []
+parts_behind (Some text) = slice_split is_comma text

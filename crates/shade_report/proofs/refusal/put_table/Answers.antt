@@ -1,0 +1,13 @@
+use Rattle.shade_report.specs.Refusals.{fault_text}
+use Rattle.shade_report.proofs.Refused.{refused_cut, refused_then}
+use Rattle.shade_report.proofs.refusal.put_table.Goals as goal
+
+pub returns-in_default : goal.returns-in_default
+returns-in_default g c =
+    refused_cut c.args.name.now (fault_text c.args.fault) (g.O.Sink.view c.args.out.now) (g.O.Sink.view c.put_all.new.out) _ (rw c.as_bytes.ensures.value at c.in_default.ensures)
+
+pub returns : goal.returns
+returns g c =
+    refused_then c.args.name.now (fault_text c.args.fault) (g.O.Sink.view c.args.out.now) (g.O.Sink.view c.put_all-2.new.out) tt c.put_all-2.result (g.O.Sink.view c.put_all.new.out)
+    (rw c.as_bytes.ensures.value at c.in-Ok.ensures)
+    (rw (c.as_slice.ensures.value, c.fault_text-why.ensures) at c.put_all-2.ensures)

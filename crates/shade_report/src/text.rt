@@ -1,0 +1,9 @@
+//! The forms that a command line may have.
+
+/// The usage text.
+pub(crate) const USAGE: &str = "\
+usage: dye ks CURVES COLUMN
+       dye xyz CURVES COLUMN WEIGHTS
+       dye lab CURVES COLUMN WEIGHTS
+       dye diff CURVES STANDARD SAMPLE WEIGHTS L10 C10 [TOL]
+";

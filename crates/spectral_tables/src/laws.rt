@@ -1,0 +1,13 @@
+//! The laws of spectra. A call does nothing; what it ensures is the law.
+ghost use Rattle.spectral_tables.specs.Laws.{SpectrumEncloses, SpectrumInRange};
+
+/// The law of [`Curve::spectrum`](crate::Curve::spectrum): it keeps enclosing where the scale
+/// grows.
+pub fn spectrum()
+    ensures { SpectrumEncloses }
+{}
+
+/// The range of [`Curve::spectrum`](crate::Curve::spectrum) at every scale: 0 to 1.
+pub fn range()
+    ensures { SpectrumInRange }
+{}

@@ -1,0 +1,14 @@
+//! Tests of decimals, tables, ratios and lights through their public calls. They stand in a crate
+//! above, so that none of the crates below is proved a second time for a few tests.
+#![tactic(auto)]
+
+#[cfg(test)]
+mod decimals;
+#[cfg(test)]
+mod files;
+#[cfg(test)]
+mod lights;
+#[cfg(test)]
+mod ratios;
+#[cfg(test)]
+mod tables;
