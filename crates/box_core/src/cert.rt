@@ -21,6 +21,6 @@ pub struct Cert {
     pub ghost short: { length lines ≤ 32000000 },
     pub ghost few: { length undecided ≤ 1000000 },
     pub ghost one_length: { HaveOneLength claim undecided } by { Prim.hlevel props },
-    pub ghost numbers: { ClaimFits claim × All StepsFit undecided × All LineFits lines }
-        by { Prim.hlevel (props, claim_fits_prop, line_fits_prop) },
+    pub ghost numbers: { ClaimFits claim × All StepsFit undecided
+        × All LineFits lines } by { Prim.hlevel (props, claim_fits_prop, line_fits_prop) },
 }

@@ -1,5 +1,5 @@
 use crate::Ladder;
-use box_core::{BoxR, Judged, Landscape, Evals, corner_key, halves, split};
+use box_core::{BoxR, Evals, Judged, Landscape, corner_key, halves, split};
 use price_grid::Steps;
 use std::test::Fail;
 

@@ -8,8 +8,7 @@ use std::test::Fail;
 
 const HEADER: &str = "nm,p100,p50,p30,p12,p6,p08,p001";
 
-const USAGE: &str =
-    "usage: dye ks CURVES COLUMN\n       dye xyz CURVES COLUMN WEIGHTS\n\
+const USAGE: &str = "usage: dye ks CURVES COLUMN\n       dye xyz CURVES COLUMN WEIGHTS\n\
     \x20      dye lab CURVES COLUMN WEIGHTS\n\
     \x20      dye diff CURVES STANDARD SAMPLE WEIGHTS L10 C10 [TOL]\n";
 
@@ -318,8 +317,7 @@ fn other_weights(rt: HostRuntime) -> Result<(), Fail> {
     let alloc = rt.alloc();
     let flat = curve_file(alloc, HEADER, FLAT, FLAT, 700)?;
     let ones = "1,1,1";
-    let same =
-        "0 X/Xn 0.125000000000..0.125000000000\nY/Yn 0.125000000000..0.125000000000\n\
+    let same = "0 X/Xn 0.125000000000..0.125000000000\nY/Yn 0.125000000000..0.125000000000\n\
          Z/Zn 0.125000000000..0.125000000000\n";
     let header = "nm,X,Y,Z";
     for (head, at, other, end, want) in [

@@ -33,7 +33,8 @@ fn all_tables<'a>(
 
 /// That an array has as many items as a range allows.
 pub(crate) fn count_in(place: Place, low: usize, high: usize, count: usize) -> Result<(), JobError>
-    ensures is { Gives (λ x. x) result (ensure place JobRule.BadCount (nat_le low count && nat_le count high)) }
+    ensures is { Gives (λ x. x) result
+        (ensure place JobRule.BadCount (nat_le low count && nat_le count high)) }
     ensures range { IfOk result (λ _. (low ≤ count) × (count ≤ high)) }
 {
     if low <= count && count <= high {

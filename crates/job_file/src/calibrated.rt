@@ -94,7 +94,8 @@ pub(crate) fn calibrated(
     requires few { length dyes.now ≤ 12 }
     requires range { All IsDye dyes.now }
     requires waves { length substrate.now ≡ wave_count book.now }
-    ensures { Gives (λ v. v.items) result (each (next_calibrated book.now substrate.now) [] dyes.now) }
+    ensures { Gives (λ v. v.items) result
+        (each (next_calibrated book.now substrate.now) [] dyes.now) }
 {
     let mut calibrated = Vec::new(alloc);
     for dye in dyes {

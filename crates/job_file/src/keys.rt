@@ -55,7 +55,8 @@ impl Section<'_> {
     ) -> Result<u64, JobError>
         requires low { low ≤ absent }
         requires high { absent ≤ high }
-        ensures is { Gives (λ n. n) result (whole_or key.now low high absent (entries_of self.now)) }
+        ensures is { Gives (λ n. n) result
+            (whole_or key.now low high absent (entries_of self.now)) }
         ensures range { IfOk result (λ n. (low ≤ n) × (n ≤ high)) }
     {
         match self.get(key) {

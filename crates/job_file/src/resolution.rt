@@ -23,7 +23,8 @@ use std::alloc::Global;
 
 /// The cloth of the batch, if there is one.
 fn batch_curve(book: &CurveBook, batch: &Option<JobBatch>) -> Result<Option<Curve>, JobError>
-    ensures is { Gives (λ c. c) result (if_there (λ b. curve_of book.now batch_place b.curve) batch.now) }
+    ensures is { Gives (λ c. c) result
+        (if_there (λ b. curve_of book.now batch_place b.curve) batch.now) }
     ensures waves { IfOk result (λ o. IfSome o (λ c. length c ≡ wave_count book.now)) }
 {
     let Some(batch) = batch else {

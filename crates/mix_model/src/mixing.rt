@@ -22,8 +22,8 @@ fn sum_ks<S: Scale>(base: &BaseCurve<S>, dyes: &[Dye], lo: &[u16], hi: &[u16], w
     ensures is { slice_get (mixture_ks_at S.unit base.now (portions dyes.now lo.now hi.now)) wave
         ≡ Some result }
     ensures range { UpTo (5000 * S.unit + length dyes.now * (2 * 10 ^ 8 * S.unit)) result }
-    ensures reflects {
-        CanReflect S.unit (mixture_ks_at S.unit base.now (portions dyes.now lo.now hi.now))
+    ensures reflects { CanReflect S.unit
+        (mixture_ks_at S.unit base.now (portions dyes.now lo.now hi.now))
         → UpTo (2 * 10 ^ 6 * S.unit) result }
 {
     let mut sum = base.at(wave);
