@@ -24,6 +24,3 @@ pub use real_sink::RealSink;
 pub use shelf::Shelf;
 pub use sink::Sink;
 pub use whole_file::{TakeFault, take_file};
-
-#[cfg(test)]
-mod tests;

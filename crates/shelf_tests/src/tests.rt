@@ -1,4 +1,4 @@
-use crate::{Failed, MemShelf, MemSink, RealShelf, RealSink, Shelf, Sink, TakeFault, take_file};
+use shelf_io::{Failed, MemShelf, MemSink, RealShelf, RealSink, Shelf, Sink, TakeFault, take_file};
 use std::io::Write;
 use std::os::fd::AsRawFd;
 use std::test::Fail;
