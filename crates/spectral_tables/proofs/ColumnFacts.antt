@@ -56,9 +56,10 @@ same_count : (n : ℕ) (book : Book) → All (λ e. length e.1 ≡ n) book → A
 same_count n [] h = λ k d lt. absurd (omega arith)
 same_count n (e ∷ es) h = λ k d lt. h k d lt ∙ sym (h 0 e (omega arith))
 
-pub holds-book : (rows names : List (List ℕ)) (i : ℕ) (book : Book) → length names ≤ i → IsDistinct bytes_eq names → Holds rows names i book → IsBook book
-holds-book rows names i book le distinct h =
+pub holds-book : (rows names : List (List ℕ)) (i : ℕ) (book : Book) → 1 ≤ length names → length names ≤ i → IsDistinct bytes_eq names → Holds rows names i book → IsBook book
+holds-book rows names i book nonempty le distinct h =
     record {
+      some = let all = sym (length-keys_of book) ∙ ap length (h.names_are ∙ take_all i names le) in omega (arith, all, nonempty);
       distinct = subst (IsDistinct bytes_eq) (sym (h.names_are ∙ take_all i names le)) distinct;
       curves = h.curves;
       equal = same_count (length rows) book h.equal;

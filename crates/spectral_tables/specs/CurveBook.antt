@@ -1,5 +1,5 @@
 -- Curves by name.
-use Rattle.std.specs.Prelude.{◌≡◌, ◌∷◌, ℕ, List, [], All, Option, length, map}
+use Rattle.std.specs.Prelude.{◌≡◌, ◌≤◌, ◌∷◌, ℕ, List, [], All, Option, length, map}
 use Rattle.std.specs.List.{IsDistinct}
 use Rattle.std.specs.Map.{keys_of, lookup}
 use Rattle.std.specs.Str.{bytes_eq}
@@ -21,6 +21,7 @@ wave_count (first ∷ _) = length first.1
 
 -- what a book keeps
 pub record IsBook (book : Book) : Type 0 where
+  pub some : 1 ≤ length book
   pub distinct : IsDistinct bytes_eq (keys_of book)
   pub curves : All (λ e. IsCurve e.1) book
   pub equal : All (λ e. length e.1 ≡ wave_count book) book

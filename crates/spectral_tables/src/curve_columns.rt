@@ -1,6 +1,6 @@
 //! The curves of a file: its columns under their names.
 
-ghost use Rattle.std.specs.Prelude.{◌≡◌, ◌+◌, ◌<◌, [], length, map, All, IfOk};
+ghost use Rattle.std.specs.Prelude.{◌≡◌, ◌+◌, ◌<◌, ◌≤◌, [], length, map, All, IfOk};
 ghost use Rattle.std.specs.List.{IsDistinct};
 ghost use Rattle.std.specs.Str.{bytes_eq};
 ghost use Rattle.spectral_tables.specs.Curve.{IsCurve, IsWaveCount, IsReflectance};
@@ -34,6 +34,7 @@ pub(crate) fn book_of(
     names: &[&[u8]],
     rows: &[Vec<u32>],
 ) -> Result<CurveBook, AllocError>
+    requires some { 1 ≤ length names.now }
     requires waves { IsWaveCount (length rows.now) }
     requires shape { All (IsRow (length names.now + 1)) (map (λ row. row.items) rows.now) }
     requires distinct { IsDistinct bytes_eq (map (λ n. n.now) names.now) }

@@ -74,7 +74,8 @@ pub(crate) fn names_of<'a>(alloc: Global, fields: &[&'a [u8]]) -> Result<Vec<&'a
     ensures is { Gives (λ v. map (λ n. n.now) v.items) result
         (names_of (map (λ f. f.now) fields.now)) }
     ensures distinct { IfOk result (λ v. IsDistinct bytes_eq (map (λ n. n.now) v.items)) }
-    ensures count { IfOk result (λ v. vec_len v < 65) }
+    ensures some { IfOk result (λ v. 1 ≤ vec_len v) }
+    ensures few { IfOk result (λ v. vec_len v < 65) }
 {
     let start = Cell { row: 1, column: 1 };
     start.ensure(is_curve_header(fields), TableRule::NoHeader)?;

@@ -29,4 +29,4 @@ loop-column-preserved c =
 
 pub invariant_of-result : goal.invariant_of-result
 invariant_of-result c =
-    holds-book (map (λ row. row.items) c.args.rows.now) (map (λ (n : Bor (List ℕ)). n.now) c.args.names.now) c.loop-column.column (book_of c.loop-column.curves.entries) (rw length-map (omega arith)) c.requires.distinct c.loop-column.invariant
+    holds-book (map (λ row. row.items) c.args.rows.now) (map (λ (n : Bor (List ℕ)). n.now) c.args.names.now) c.loop-column.column (book_of c.loop-column.curves.entries) (rw length-map c.requires.some) (rw length-map (omega arith)) c.requires.distinct c.loop-column.invariant
