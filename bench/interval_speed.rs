@@ -82,6 +82,28 @@ impl<const UNIT: i128> Iv<UNIT> {
     fn cbrt(self, root: impl Fn(u128) -> (u128, bool)) -> Self {
         roots(self.lo * (UNIT * UNIT), self.hi * (UNIT * UNIT), root)
     }
+    // 1 / (1 + q + sqrt(q^2 + 2q)), by the operations.
+    fn reflect(self, root: impl Fn(u128) -> (u128, bool)) -> Self {
+        let one = Iv { lo: UNIT, hi: UNIT };
+        one.div(one.add(self).add(self.square().add(self.scale_by(2)).sqrt(root)))
+    }
+    // The same in words, for q from 0 to 100: each quotient is a guess that is mended.
+    fn reflect_by_guess(self, root: impl Fn(u128) -> (u128, bool)) -> Self {
+        let unit = UNIT as u64;
+        let square = u128::from(unit) * u128::from(unit);
+        let (low, high) = (self.lo as u64, self.hi as u64);
+        let power = |q: u64| u128::from(q) * u128::from(q);
+        let radicand = |q: u64, part: u128| (part + 2 * u128::from(q)) * u128::from(unit);
+        let below = down(root(radicand(low, over_unit::<UNIT>(power(low))))) as u64;
+        let rounded_up = over_unit::<UNIT>(power(high) + u128::from(unit - 1));
+        let above = up(root(radicand(high, rounded_up))) as u64;
+        let (first, last) = (unit + low + below, unit + high + above);
+        let dividend = square + u128::from(first - 1);
+        Iv {
+            lo: quotient(square, last, unit + high - above) as i128,
+            hi: quotient(dividend, first, (unit + low - below).wrapping_sub(1)) as i128,
+        }
+    }
     fn number(root: u128) -> Self {
         Iv { lo: root as i128, hi: 0 }
     }
@@ -142,6 +164,29 @@ fn cbrt_beside(mut root: u128, x: u128) -> (u128, bool) {
     (root, cube == x)
 }
 
+// The quotient rounded down, where `near` is this or one less.
+fn quotient(z: u128, by: u64, near: u64) -> u128 {
+    let (by, near) = (u128::from(by), u128::from(near));
+    let product = near * by;
+    if product <= z && z - product < 2 * by {
+        near + u128::from(z - product >= by)
+    } else {
+        z / by
+    }
+}
+
+// The quotient by the unit, rounded down.
+fn over_unit<const UNIT: i128>(z: u128) -> u128 {
+    let unit = UNIT as u64;
+    if z >> 64 == 0 {
+        return u128::from(z as u64 / unit);
+    }
+    let bits = 64 - unit.leading_zeros();
+    let inverse = (1u128 << (bits + 63)) / u128::from(unit);
+    let head = (z >> (bits - 10)) as u64;
+    quotient(z, unit, (u128::from(head) * inverse >> 73) as u64)
+}
+
 // A root rounded down, and one rounded up.
 fn down(root: (u128, bool)) -> u128 {
     root.0
@@ -167,27 +212,42 @@ fn interval<const UNIT: i128>(state: u64) -> Iv<UNIT> {
     Iv { lo: low as i128, hi: (low + state % 8) as i128 }
 }
 
+// K/S between 0 and 30.
+fn strength<const UNIT: i128>(state: u64) -> Iv<UNIT> {
+    let low = (state >> 16) % (30 * UNIT as u64);
+    Iv { lo: low as i128, hi: (low + state % 8) as i128 }
+}
+
 fn time<const UNIT: i128>(scale: &str, rounds: u32) {
     let mut pairs = Vec::new();
+    let mut strengths = Vec::new();
     let mut state = 1;
     for _ in 0..1000 {
         let first = next(state);
         state = next(first);
         pairs.push((interval::<UNIT>(first), interval::<UNIT>(state)));
+        strengths.push(strength::<UNIT>(first));
     }
-    macro_rules! row {
-        ($name:expr, $a:ident, $b:ident, $call:expr) => {
+    macro_rules! row_of {
+        ($name:expr, $list:expr, $item:pat, $call:expr) => {
             let start = Instant::now();
             let mut sum = 0i128;
             for _ in 0..rounds {
-                for &($a, $b) in std::hint::black_box(&pairs) {
-                    let _ = $b;
+                for $item in std::hint::black_box($list) {
                     let result = $call;
                     sum = sum.wrapping_add(result.lo).wrapping_add(result.hi);
                 }
             }
             let took = start.elapsed().as_nanos() / u128::from(rounds).max(1);
             println!("{scale} {} {took} (sum {sum})", $name);
+        };
+    }
+    macro_rules! row {
+        ($name:expr, $a:ident, $b:ident, $call:expr) => {
+            row_of!($name, &pairs, &($a, $b), {
+                let _ = $b;
+                $call
+            });
         };
     }
     row!("Ends", a, b, a);
@@ -221,6 +281,10 @@ fn time<const UNIT: i128>(scale: &str, rounds: u32) {
     number_rows!("SqrtFloorByTable", "SqrtCeilByTable", sqrt_by_table, times_unit);
     number_rows!("CbrtFloorByTable", "CbrtCeilByTable", cbrt_by_table, times_square);
     number_rows!("SqrtFloorByIsqrt", "SqrtCeilByIsqrt", isqrt, times_unit);
+    row_of!("Reflect", &strengths, &q, q.reflect(sqrt));
+    row_of!("ReflectByIsqrt", &strengths, &q, q.reflect(isqrt));
+    row_of!("ReflectByGuess", &strengths, &q, q.reflect_by_guess(sqrt));
+    row_of!("ReflectByGuessByTable", &strengths, &q, q.reflect_by_guess(sqrt_by_table));
 }
 
 fn main() {

@@ -1,5 +1,8 @@
 mod BaseFacts
 pub mod ReflectanceRanges
+mod Quotients
+mod DivisorEnds
+mod ReflectanceEnds
 pub mod ReflectanceLaws
 pub mod MixtureLaws
 mod Portions

@@ -1,15 +1,19 @@
 -- The laws of mixing: the sum of the laws of what is mixed.
-use Rattle.std.proofs.Common.{◌+◌, ◌*◌, ◌≤◌, ◌<◌, ◌≤ℤ◌, ℕ, pos, List, [], ◌∷◌, All, map, subst, sym, arith}
+use Rattle.std.proofs.Common.{◌+◌, ◌-◌, ◌*◌, ◌/◌, ◌^◌, ◌≤◌, ◌<◌, ◌≤ℤ◌, ◌*ℤ◌, ℕ, ℤ, pos, negsuc, List, [], ◌∷◌, All, map, subst, sym, arith}
 use Rattle.std.specs.List.{AllZip}
 use Rattle.std.proofs.lemmas.Int.{ints}
-use Rattle.std.proofs.lemmas.List.Elements.{All-tail}
+use Rattle.std.proofs.lemmas.List.Elements.{All-cons, All-tail}
 use Rattle.interval_specs.specs.Ends.{Ends, nothing}
 use Rattle.interval_specs.specs.Encloses.{Encloses}
+use Rattle.interval_specs.specs.Rounding.{floor_over}
+use Rattle.interval_specs.specs.Operations.{ratio_at}
 use Rattle.interval_specs.specs.Ranges.{UpTo}
 use Rattle.interval_specs.proofs.Laws.{sum_encloses, encloses_itself}
+use Rattle.interval_specs.proofs.Order.{le_pos}
 use Rattle.interval_specs.proofs.Ranges.{sum_not_negative}
 use Rattle.spectral_tables.specs.Laws.{EnclosesWaves}
 use Rattle.ks_curves.specs.Dye.{DyeData}
+use Rattle.ks_curves.specs.KubelkaMunk.{ks_at}
 use Rattle.ks_curves.specs.Calibration.{contribution_range_at}
 use Rattle.ks_curves.proofs.ContributionLaws.{ks_encloses, contribution_encloses, contribution_narrows, value_not_negative}
 use Rattle.mix_model.specs.Reflectance.{reflectance_at}
@@ -43,22 +47,43 @@ contributions_enclose n m wave (p ∷ ps) each =
     let P : Portion → Type 0 = λ p. p.fewest ≤ p.most in
     sum_encloses m _ _ _ _ (contribution_encloses n m p.dye wave p.fewest p.most (first P p ps each)) (contributions_enclose n m wave ps (All-tail P p ps each))
 
-mixtures_enclose : (n m wave : ℕ) (ps : List Portion) (base finer : List Ends) → 0 < n → 0 < m → All (UpTo (5000 * n)) base → EnclosesWaves m base finer → All (λ p. p.fewest ≤ p.most) ps
+mixtures_enclose : (n m wave : ℕ) (ps : List Portion) (base finer : List Ends) → 0 < n → 0 < m → All (λ b. pos 0 ≤ℤ b.lo) base → EnclosesWaves m base finer → All (λ p. p.fewest ≤ p.most) ps
     → EnclosesWaves m (map (reflectance_at n) (mixture_from n ps wave base)) (map (reflectance_at (m * n)) (mixture_from (m * n) ps wave finer))
 unfolding mixture_from
 mixtures_enclose n m wave ps [] [] some times range h each = tt
 mixtures_enclose n m wave ps [] (b ∷ bs) some times range h each = absurd h
 mixtures_enclose n m wave ps (a ∷ as') [] some times range h each = absurd h
 mixtures_enclose n m wave ps (a ∷ as') (b ∷ bs) some times range h each =
-    let here = range 0 a (omega arith) in
-    let not_negative = sum_not_negative a (contributions_at n wave ps) here.not_negative (contributions_not_negative n wave ps) in (
+    let not_negative = sum_not_negative a (contributions_at n wave ps) (range 0 a (omega arith)) (contributions_not_negative n wave ps) in (
       reflectance_encloses n m _ _ some times not_negative (sum_encloses m _ _ _ _ h.0 (contributions_enclose n m wave ps each)),
-      mixtures_enclose n m (wave + 1) ps as' bs some times (All-tail (UpTo (5000 * n)) a as' range) h.1 each,
+      mixtures_enclose n m (wave + 1) ps as' bs some times (All-tail (λ b. pos 0 ≤ℤ b.lo) a as' range) h.1 each,
     )
 
 pub mixture_encloses : MixtureEncloses
 unfolding mixed_at
-mixture_encloses n m base finer ps some times kept h each = mixtures_enclose n m 0 ps base finer some times kept.range h each
+mixture_encloses n m base finer ps some times kept h each = mixtures_enclose n m 0 ps base finer some times (λ k d lt. (kept.range k d lt).not_negative) h each
+
+floor_from_0 : (z : ℤ) (q : ℕ) → pos 0 ≤ℤ z → pos 0 ≤ℤ floor_over z q
+unfolding floor_over
+floor_from_0 (pos a) q h = le_pos (a / q)
+floor_from_0 (negsuc a) q h = absurd (omega (arith, ints))
+
+-- K/S is not below 0, of any number taken as a reflectance
+ks_not_negative : (n millionths : ℕ) → pos 0 ≤ℤ (ks_at n millionths).lo
+unfolding ks_at ratio_at
+ks_not_negative n millionths =
+    let square = (10 ^ 6 - millionths) * (10 ^ 6 - millionths) in
+    floor_from_0 (pos square *ℤ pos n) (2 * 10 ^ 6 * millionths) (le_pos (square * n))
+
+base_not_negative : (n : ℕ) (curve : List ℕ) → All (λ b. pos 0 ≤ℤ b.lo) (base_at n curve)
+unfolding base_at
+base_not_negative n [] = λ k d lt. absurd (omega arith)
+base_not_negative n (r ∷ curve) = All-cons (λ b. pos 0 ≤ℤ b.lo) (ks_at n r) (base_at n curve) (ks_not_negative n r) (base_not_negative n curve)
+
+-- a mixture on any curve keeps enclosing where the scale grows
+pub any_mixture_encloses : (n m : ℕ) (curve : List ℕ) (ps : List Portion) → 0 < n → 0 < m → All (λ p. p.fewest ≤ p.most) ps → EnclosesWaves m (mixed_at n (base_at n curve) ps) (mixed_at (m * n) (base_at (m * n) curve) ps)
+unfolding mixed_at
+any_mixture_encloses n m curve ps some times each = mixtures_enclose n m 0 ps (base_at n curve) (base_at (m * n) curve) some times (base_not_negative n curve) (base_encloses n m curve) each
 
 -- ---- in the ranges of steps
 

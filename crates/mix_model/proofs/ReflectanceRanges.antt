@@ -1,12 +1,11 @@
--- The ranges of the parts of the reflectance, and the room that each call of its evaluation has.
-use Rattle.std.proofs.Common.{◌+◌, ◌*◌, ◌^◌, ◌≤◌, ◌<◌, ◌≤ℤ◌, ◌<ℤ◌, ℕ, pos, arith, unsigned_abs}
+-- The ranges of the parts of the reflectance.
+use Rattle.std.proofs.Common.{◌+◌, ◌*◌, ◌^◌, ◌≤◌, ◌<◌, ◌≤ℤ◌, ◌<ℤ◌, ℕ, pos, arith}
 use Rattle.std.proofs.lemmas.Int.{ints}
-use Rattle.std.proofs.Math.Nat.{mul-le-mul, mul-le-mul_left, mul-le-mul_right}
-use Rattle.interval_specs.specs.Ends.{Ends, one_at, magnitude_of}
+use Rattle.interval_specs.specs.Ends.{Ends, IsHeld, one_at, magnitude_of}
 use Rattle.interval_specs.specs.Ranges.{UpTo}
 use Rattle.interval_specs.specs.Operations.{sum_of, multiple_of, square_at}
 use Rattle.interval_specs.specs.Roots.{sqrt_at}
-use Rattle.interval_specs.proofs.Ranges.{square_up_to, multiple_up_to, sum_up_to, sqrt_up_to, quotient_up_to, up_to_wider, magnitude_of_up_to, one_up_to, magnitude_from}
+use Rattle.interval_specs.proofs.Ranges.{square_up_to, multiple_up_to, sum_up_to, sqrt_up_to, quotient_up_to, up_to_wider, held, magnitude_of_up_to, one_up_to, magnitude_from}
 use Rattle.mix_model.specs.Reflectance.{radicand_at, divisor_at, reflectance_at}
 
 -- K/S of what can be mixed
@@ -36,13 +35,13 @@ root_range n q some u = sqrt_up_to n (3 * 10 ^ 6 * n) (5 * 10 ^ 12 * n) (radican
 begun_range : (n : ℕ) (q : Ends) → IsStrength n q → UpTo (3 * 10 ^ 6 * n) (sum_of (one_at n) q)
 begun_range n q u = up_to_wider (n + 2 * 10 ^ 6 * n) (3 * 10 ^ 6 * n) _ (omega arith) (sum_up_to n (2 * 10 ^ 6 * n) (one_at n) q (one_up_to n) u)
 
-divisor_range : (n : ℕ) (q : Ends) → 0 < n → IsStrength n q → UpTo (6 * 10 ^ 6 * n) (divisor_at n q)
+pub divisor_range : (n : ℕ) (q : Ends) → 0 < n → IsStrength n q → UpTo (6 * 10 ^ 6 * n) (divisor_at n q)
 unfolding divisor_at
 divisor_range n q some u =
     up_to_wider (3 * 10 ^ 6 * n + 3 * 10 ^ 6 * n) (6 * 10 ^ 6 * n) _ (omega arith) (sum_up_to (3 * 10 ^ 6 * n) (3 * 10 ^ 6 * n) _ _ (begun_range n q u) (root_range n q some u))
 
 -- the divisor is not below 1
-divisor_least : (n : ℕ) (q : Ends) → 0 < n → IsStrength n q → pos n ≤ℤ (divisor_at n q).lo
+pub divisor_least : (n : ℕ) (q : Ends) → 0 < n → IsStrength n q → pos n ≤ℤ (divisor_at n q).lo
 unfolding divisor_at sum_of one_at
 divisor_least n q some u =
     let root = (root_range n q some u).not_negative in
@@ -55,45 +54,8 @@ reflectance_range n q some u =
     let least = divisor_least n q some u in
     quotient_up_to n n n n (one_at n) (divisor_at n q) (omega (arith, ints, least)) (divisor_range n q some u).ordered (magnitude_from n (divisor_at n q).lo least) (omega arith) (one_up_to n)
 
--- ---- the calls
+pub reflectance_held : (n : ℕ) (q : Ends) → 0 < n → n ≤ 10 ^ 12 → IsStrength n q → IsHeld (reflectance_at n q)
+reflectance_held n q some few u = held (reflectance_at n q) (magnitude_of_up_to (10 ^ 25) (reflectance_at n q) (up_to_wider n (10 ^ 25) (reflectance_at n q) (omega arith) (reflectance_range n q some u)))
 
-record_room : (n j k : ℕ) (a b : Ends) → n ≤ 10 ^ 12 → j + k ≤ 10 ^ 13 * n → UpTo j a → UpTo k b → magnitude_of a + magnitude_of b ≤ 10 ^ 25
-record_room n j k a b few all u v =
-    let s = small j a u in
-    let t = small k b v in
-    let m = mul-le-mul_left (10 ^ 13) few in
-    omega arith
-
-pub square_room : (n : ℕ) (q : Ends) → n ≤ 10 ^ 12 → IsStrength n q → magnitude_of q * magnitude_of q ≤ 10 ^ 25 * n
-square_room n q few u =
-    let s = small (2 * 10 ^ 6 * n) q u in
-    let p = mul-le-mul s s in
-    let m = mul-le-mul_right n few in
-    omega (arith, p, m)
-
-pub twice_room : (n : ℕ) (q : Ends) → n ≤ 10 ^ 12 → IsStrength n q → magnitude_of q * 2 ≤ 10 ^ 25
-twice_room n q few u = let s = small (2 * 10 ^ 6 * n) q u in omega arith
-
-pub radicand_room : (n : ℕ) (q : Ends) → 0 < n → n ≤ 10 ^ 12 → IsStrength n q → magnitude_of (square_at n q) + magnitude_of (multiple_of (pos 2) q) ≤ 10 ^ 25
-radicand_room n q some few u = record_room n (4 * 10 ^ 12 * n) (4 * 10 ^ 6 * n) _ _ few (omega arith) (square_range n q some u) (twice_range n q u)
-
-pub radicand_not_negative : (n : ℕ) (q : Ends) → 0 < n → IsStrength n q → pos 0 ≤ℤ (radicand_at n q).lo
-radicand_not_negative n q some u = (radicand_range n q some u).not_negative
-
-pub begun_room : (n : ℕ) (q : Ends) → n ≤ 10 ^ 12 → IsStrength n q → magnitude_of (one_at n) + magnitude_of q ≤ 10 ^ 25
-begun_room n q few u = record_room n n (2 * 10 ^ 6 * n) _ _ few (omega arith) (one_up_to n) u
-
-pub divisor_room : (n : ℕ) (q : Ends) → 0 < n → n ≤ 10 ^ 12 → IsStrength n q → magnitude_of (sum_of (one_at n) q) + magnitude_of (sqrt_at n (radicand_at n q)) ≤ 10 ^ 25
-divisor_room n q some few u = record_room n (3 * 10 ^ 6 * n) (3 * 10 ^ 6 * n) _ _ few (omega arith) (begun_range n q u) (root_range n q some u)
-
--- the last quotient
 pub divisor_positive : (n : ℕ) (q : Ends) → 0 < n → IsStrength n q → pos 0 <ℤ (divisor_at n q).lo
 divisor_positive n q some u = let least = divisor_least n q some u in omega (arith, ints, least)
-
-pub quotient_room : (n : ℕ) (q : Ends) → 0 < n → n ≤ 10 ^ 12 → IsStrength n q → magnitude_of (one_at n) * n ≤ 10 ^ 25 * unsigned_abs (divisor_at n q).lo
-quotient_room n q some few u =
-    let least = magnitude_from n (divisor_at n q).lo (divisor_least n q some u) in
-    let one = small n (one_at n) (one_up_to n) in
-    let m = mul-le-mul_right n one in
-    let f = mul-le-mul_right n few in
-    omega (arith, m, f, least)

@@ -5,6 +5,7 @@
 mod base;
 pub mod laws;
 mod mixing;
+mod quotient;
 mod reflectance;
 
 pub use base::BaseCurve;

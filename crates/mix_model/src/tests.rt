@@ -1,6 +1,8 @@
 use super::*;
+use crate::quotient::{near_over_unit, over_unit, quotient};
+use crate::reflectance::{divisor_up, near_reflectance};
 use arrayvec::ArrayVec;
-use fix_bounds::{Base, Iv, Quick, Scale};
+use fix_bounds::{Base, Iv, Quick, Scale, unit};
 use ks_curves::Dye;
 use spectral_tables::Curve;
 
@@ -31,4 +33,39 @@ fn mixtures(rt: HostRuntime) {
     assert_eq!(rt; ends(sum), (250_000_000_000, 816_666_666_667));
     let any = mix(&base, &dyes, &[0], &[100]).at(30);
     assert_eq!(rt; ends(any), (dyed.lo(), 500_000_000_000));
+}
+
+/// A wrong guess costs time and nothing else, so no clause speaks of it: here wrong ones are
+/// counted, for K/S from 0 to 30.
+#[test]
+fn guesses_are_mostly_right(rt: HostRuntime) {
+    assert!(rt; wrong_guesses::<Base>() < 4);
+    assert!(rt; wrong_guesses::<Quick>() < 4);
+}
+
+fn wrong_guesses<S: Scale>() -> u32 {
+    let parts = unit::<S>();
+    let square = u128::from(parts) * u128::from(parts);
+    let mut drawn: u64 = 1;
+    let mut wrong: u32 = 0;
+    for _ in 0..4000 {
+        drawn = drawn
+            .wrapping_mul(6_364_136_223_846_793_005)
+            .wrapping_add(1_442_695_040_888_963_407);
+        let q = drawn / 0x1_0000 % (30 * parts);
+        let power = u128::from(q) * u128::from(q);
+        let over = near_over_unit::<S>(power);
+        let divisor = divisor_up::<S>(q);
+        let near = near_reflectance(parts, q, divisor);
+        if !is_near(over, over_unit::<S>(power))
+            || !is_near(near, quotient(square, divisor, near))
+        {
+            wrong = wrong.saturating_add(1);
+        }
+    }
+    wrong
+}
+
+fn is_near(guess: u64, quotient: u128) -> bool {
+    quotient.wrapping_sub(u128::from(guess)) <= 1
 }

@@ -4,6 +4,7 @@ ghost use Rattle.std.specs.Prelude.{ℕ, ◌^◌, ◌≤◌};
 
 use crate::pairs::Pair;
 use fix_bounds::{Iv, Scale, unit};
+use mix_model::reflect;
 use root_bounds::{cbrt_ceil, cbrt_floor, cbrt_iv, sqrt_ceil, sqrt_floor, sqrt_iv};
 
 /// The operations that are timed.
@@ -28,10 +29,11 @@ pub(crate) enum Operation {
     SqrtCeil,
     CbrtFloor,
     CbrtCeil,
+    Reflect,
 }
 
 /// All of them, in the order of the report.
-pub(crate) const OPERATIONS: [Operation; 19] = [
+pub(crate) const OPERATIONS: [Operation; 20] = [
     Operation::Ends,
     Operation::OfRatio,
     Operation::Add,
@@ -51,6 +53,7 @@ pub(crate) const OPERATIONS: [Operation; 19] = [
     Operation::SqrtCeil,
     Operation::CbrtFloor,
     Operation::CbrtCeil,
+    Operation::Reflect,
 ];
 
 macro_rules! rounds {
@@ -60,6 +63,21 @@ macro_rules! rounds {
             for pair in $pairs {
                 let ($first, $second) = (pair.first, pair.second);
                 let _ = $second;
+                let result = $call;
+                sum = sum.wrapping_add(result.lo()).wrapping_add(result.hi());
+            }
+        }
+        sum
+    }};
+}
+
+// the same of the K/S of each pair
+macro_rules! strength_rounds {
+    ($pairs:ident, $rounds:ident, $strength:ident, $call:expr) => {{
+        let mut sum = 0i128;
+        for _ in 0..$rounds {
+            for pair in $pairs {
+                let $strength = pair.strength;
                 let result = $call;
                 sum = sum.wrapping_add(result.lo()).wrapping_add(result.hi());
             }
@@ -162,6 +180,10 @@ fn cbrt_up<S: Scale>(pairs: &[Pair<S>], rounds: u32) -> i128 {
     number_rounds!(pairs, rounds, low, cbrt_ceil(low * square))
 }
 
+fn reflectance<S: Scale>(pairs: &[Pair<S>], rounds: u32) -> i128 {
+    strength_rounds!(pairs, rounds, q, reflect(q))
+}
+
 fn unit_squared<S: Scale>() -> u128
     ensures { result ≤ 10 ^ 24 }
 {
@@ -191,5 +213,6 @@ pub(crate) fn run<S: Scale>(operation: Operation, pairs: &[Pair<S>], rounds: u32
         Operation::SqrtCeil => sqrt_up(pairs, rounds),
         Operation::CbrtFloor => cbrt_down(pairs, rounds),
         Operation::CbrtCeil => cbrt_up(pairs, rounds),
+        Operation::Reflect => reflectance(pairs, rounds),
     }
 }

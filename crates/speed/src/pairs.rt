@@ -7,15 +7,18 @@ use std::alloc::{AllocError, Global};
 /// How many pairs are drawn.
 const COUNT: u32 = 1000;
 
-/// Two intervals above 0 and of a few units at most, for the two sides of an operation.
+/// Two intervals above 0 and of a few units at most, for the two sides of an operation, and the K/S
+/// of a colour.
 #[derive(Drop)]
 pub(crate) struct Pair<S: Scale> {
     pub(crate) first: Iv<S>,
     pub(crate) second: Iv<S>,
+    pub(crate) strength: Iv<S>,
     ghost first_range: { UpTo (2 ^ 41) first },
     ghost first_magnitude: { first.hi ≤ℤ pos (10 * S.unit) },
     ghost second_range: { UpTo (2 ^ 41) second },
     ghost divisor: { pos 0 <ℤ second.lo },
+    ghost strength_range: { UpTo (31 * S.unit) strength },
 }
 
 /// An interval from the bits of `state`: its lower end between 0 and 1, and up to seven parts wide.
@@ -25,6 +28,15 @@ fn interval<S: Scale>(state: u64) -> Iv<S>
     ensures positive { pos 0 <ℤ result.lo }
 {
     let low = 1 + (state / 0x100_0000) % unit::<S>();
+    let high = low + state % 8;
+    Iv::of_ends(i128::from(low), i128::from(high))
+}
+
+/// A K/S from the bits of `state`: its lower end between 0 and 30, and up to seven parts wide.
+fn strength<S: Scale>(state: u64) -> Iv<S>
+    ensures { UpTo (31 * S.unit) result }
+{
+    let low = (state / 0x1_0000) % (30 * unit::<S>());
     let high = low + state % 8;
     Iv::of_ends(i128::from(low), i128::from(high))
 }
@@ -46,6 +58,7 @@ pub(crate) fn drawn<S: Scale>(alloc: Global) -> Result<Vec<Pair<S>>, AllocError>
         pairs.push(Pair {
             first: interval(first),
             second: interval(state),
+            strength: strength(first),
         })?;
     }
     Ok(pairs)

@@ -1,0 +1,73 @@
+//! Quotients by a guess and a test: a 128-bit division is a slow call.
+ghost use Rattle.std.specs.Prelude.{◌≡◌, ◌*◌, ◌/◌, ◌^◌, ◌<◌, ◌≤◌, ℕ};
+ghost use Rattle.std.specs.Int.{div_ceil};
+
+use fix_bounds::{Scale, unit};
+
+/// The quotient of `z` by `divisor`, rounded down: `near` where a test shows that it is this or one
+/// less, and else by a division.
+#[inline(always)]
+pub(crate) fn quotient(z: u128, divisor: u64, near: u64) -> u128
+    requires { 0 < divisor }
+    ensures { result ≡ z / divisor }
+{
+    let by = u128::from(divisor);
+    let guess = u128::from(near);
+    let product = guess * by;
+    if product <= z {
+        let left = z - product;
+        if left < 2 * by {
+            return if left < by { guess } else { guess + 1 };
+        }
+    }
+    z / by
+}
+
+/// The same, rounded up.
+#[inline(always)]
+pub(crate) fn quotient_up(z: u128, divisor: u64, near: u64) -> u128
+    requires some { 0 < divisor }
+    requires room { z < 2 ^ 127 }
+    ensures { result ≡ div_ceil z divisor }
+{
+    quotient(z + u128::from(divisor - 1), divisor, near)
+}
+
+/// The quotient of `z` by the unit of a scale, rounded down.
+#[inline(always)]
+pub(crate) fn over_unit<S: Scale>(z: u128) -> u128
+    ensures { result ≡ z / S.unit }
+{
+    let parts = unit::<S>();
+    if z < 0x1_0000_0000_0000_0000 {
+        u128::from(z as u64 / parts)
+    } else {
+        quotient(z, parts, near_over_unit::<S>(z))
+    }
+}
+
+/// The same, rounded up.
+#[inline(always)]
+pub(crate) fn over_unit_up<S: Scale>(z: u128) -> u128
+    requires { z < 2 ^ 127 }
+    ensures { result ≡ div_ceil z S.unit }
+{
+    over_unit::<S>(z + u128::from(unit::<S>() - 1))
+}
+
+/// A guess at the quotient of `z` by the unit, this or one less, for a `z` of at most 54 bits more
+/// than the unit. Nothing is claimed of it.
+#[inline(always)]
+pub(crate) fn near_over_unit<S: Scale>(z: u128) -> u64 {
+    let parts = unit::<S>();
+    let bits = 64u32.wrapping_sub(parts.leading_zeros());
+    let inverse = low_word(1u128.wrapping_shl(bits.wrapping_add(63)) / u128::from(parts));
+    let head = low_word(z.wrapping_shr(bits.wrapping_sub(10)));
+    low_word(u128::from(head).wrapping_mul(u128::from(inverse)) >> 64) >> 9
+}
+
+/// The lower 64 bits.
+#[inline(always)]
+fn low_word(x: u128) -> u64 {
+    (x & 0xFFFF_FFFF_FFFF_FFFF) as u64
+}
