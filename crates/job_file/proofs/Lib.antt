@@ -3,3 +3,7 @@ mod NameFacts
 mod TableFacts
 mod StrengthFacts
 mod ResolveFacts
+mod Judged
+mod KeysJudged
+mod PartsJudged
+mod JobJudged

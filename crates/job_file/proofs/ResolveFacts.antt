@@ -198,6 +198,7 @@ pub kept_of : (j : Values) (substrate standard : List ℕ) (dyes : List DyeData)
     → IsResolved (record { job = j; substrate = substrate; standard = standard; dyes = dyes; grid = grid; limits = limits; weights = weights; batch = batch })
 kept_of j substrate standard dyes grid limits weights batch count calibrated is limits_are lights pairs bath weak waves standard_waves of_batch of_weights =
     record {
+      grid = ap length is ∙ length-map j.dye cost_of_dye;
       steps = subst (λ g. AllZip (λ dye cost. dye.step ≡ cost.step) dyes g) (sym is) (same_steps substrate dyes j.dye calibrated);
       lights = lights;
       limits_fit = rw (is, limits_are) (record { bath = no_steps_fit j.dye; pairs = pairs_fit j.dye j.pair pairs });

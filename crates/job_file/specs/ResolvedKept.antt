@@ -12,9 +12,10 @@ pub record HaveEqualWaves (r : ResolvedJob) : Type 0 where
   pub dyes : All (λ d. length d.substrate ≡ length r.substrate) r.dyes
   pub weights : All (λ w. length w.weights ≡ length r.substrate) r.weights
 
--- one dye for each of the grid, with the same step; weights for each light; limits and a bath that fit the grid; and a
+-- a dye of the grid for each of the job, and a calibrated one for each of the grid, with the same step; weights for each light; limits and a bath that fit the grid; and a
 -- recipe of all dyes at their most steps is not too strong
 pub record IsResolved (r : ResolvedJob) : Type 0 where
+  pub grid : length r.grid ≡ length r.job.dye
   pub steps : AllZip (λ dye cost. dye.step ≡ cost.step) r.dyes r.grid
   pub lights : length r.weights ≡ length r.job.light
   pub limits_fit : FitGrid r.grid r.limits

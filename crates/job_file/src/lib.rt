@@ -9,6 +9,7 @@ mod dyeing;
 mod fault;
 mod job;
 mod keys;
+pub mod laws;
 mod light;
 mod limits;
 mod lists;

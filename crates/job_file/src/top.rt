@@ -8,6 +8,7 @@ ghost use Rattle.job_file.specs.Top.{IsHead, has_key, head, inner, job_keys, key
 ghost use Rattle.job_file.specs.TopView.{inner_view};
 
 use crate::fault::{JobError, JobRule};
+use crate::keys::natural_in;
 use crate::section::Section;
 use crate::text::Text;
 use std::alloc::Global;
@@ -79,7 +80,7 @@ fn version_of(table: &Section) -> Option<u64>
 {
     let value = table.get("version")?;
     let number = value.as_integer()?;
-    if number == 1 { Some(1) } else { None }
+    natural_in(1, 1, number)
 }
 
 /// That a job has no keys but those of a job.
