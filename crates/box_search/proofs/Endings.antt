@@ -1,0 +1,320 @@
+-- How a search begins, goes on and ends.
+use Rattle.std.proofs.Common.{◌≡◌, ◌+◌, ◌<◌, ◌≤◌, not, min, ℕ, List, [], ◌∷◌, true, false, if◌then◌else◌, refl, sym, ap, subst, ◌∙◌, ◌⊎◌, inl, inr, arith}
+use Rattle.std.specs.Prelude.{Option, Some, None}
+use Rattle.std.specs.List.{AllByRecursion, Contains}
+use Rattle.std.specs.Ordering.{is_eq}
+use Rattle.std.specs.Cmp.{tied_itself}
+use Rattle.std.proofs.lemmas.Bool.{false≢true, or_right}
+use Rattle.std.proofs.lemmas.List.Elements.{All-from_recursion, All-nil, All-weaker}
+use Rattle.std.proofs.lemmas.Map.Views.{Contains-from_any}
+use Rattle.std.proofs.lemmas.Slice.Eq.{bytes_eq-Decides}
+use Rattle.box_specs.specs.declared.certificate.CertLine.{CertLine}
+use Rattle.box_specs.specs.declared.certificate.Claim.{Claim}
+use Rattle.box_specs.specs.Answer.{IsAnswer, IsFirstMatch, answer_of, is_match}
+use Rattle.box_specs.specs.Canonical.{IsCanonical, IsClaim, IsPart, canonical_lines, is_judged, line_of}
+use Rattle.box_specs.specs.Landscape.{IsLawful, Land, is_before, is_final, is_shut, key_of}
+use Rattle.box_specs.specs.Span.{IsWithin, Span, is_single}
+use Rattle.box_specs.specs.Splits.{cut_of, lower_half, upper_half}
+use Rattle.box_specs.specs.Tree.{Spot, Tree, count, fork, is_needed, leaf, need, rank, root, spot_cmp, spot_of, tree_of}
+use Rattle.box_specs.specs.Validity.{corners, is_listed, is_pass_line, is_undecided_line}
+use Rattle.box_specs.proofs.Answers.{never_before_itself}
+use Rattle.box_specs.proofs.Cuts.{not_both as not_both_halves}
+use Rattle.box_search.specs.Frontier.{IsAt, IsCovered, IsOpen, State, done_in, is_done, with_entry, with_halves, without}
+use Rattle.box_search.proofs.Frontier.{IsChild, Turned, entry_cases, none_some, part_trans, same_part, some_same, spot_same, without_cases}
+use Rattle.box_search.proofs.Orders.{before_by_key, before_on, by, first, key_not_before, not_after, not_both, not_deeper, not_itself, on_before, spots_are_ordered, tied_keys}
+use Rattle.box_search.proofs.Ranks.{alike, at_tree, below_after, ge_test, judged_above, lt_test, not_false, not_true, whole}
+use Rattle.box_search.proofs.Trees.{IsTree, corner_within, count_le, count_lt, halved, inside_itself, part_root, whole_root}
+use Rattle.box_search.proofs.Valid.{Found, answer, at_top, corner_in, first_is, found, line_match}
+use Rattle.box_search.proofs.Walks.{corners_are, mark, passing}
+
+pub equal_itself : (z : Spot) → is_eq (spot_cmp z z) ≡ true
+equal_itself z = ap is_eq (tied_itself spots_are_ordered z)
+
+module _ (l : Land) (lawful : IsLawful l) where
+  module _ (f : Spot → Option Span) (g : Spot → Option CertLine) (last : Option Spot) (n : ℕ) (listed : List (List ℕ)) (d : ℕ) where
+    -- a box that is not split leaves the map
+    pub turned_leaf : (u : Tree) → IsTree l u → is_final l (root u) ≡ true → Turned l lawful f (without (spot_of l d (root u)) f) g last n listed d u
+    turned_leaf (fork b s t) i h = absurd (false≢true (sym i.1 ∙ h))
+    turned_leaf (leaf b) i h = record {
+      new = λ z c k.
+          let x = without_cases (spot_of l d b) f z c k in
+          inl (x.1, x.0);
+      keeps = λ z c a k x. ap (λ t. if t then None else f z) x ∙ k;
+      below = λ e v k. inl (sym k.0, sym k.1);
+    }
+
+    -- a box that is split leaves its halves
+    pub turned_fork : (u : Tree) → IsTree l u → IsPart l (tree_of l) 0 d u → is_final l (root u) ≡ false
+        → Turned l lawful f (with_halves l d (root u) (without (spot_of l d (root u)) f)) g last n listed d u
+    turned_fork (leaf b) i at h = absurd (false≢true (sym h ∙ i.1))
+    turned_fork (fork b s t) i at h = record { new = new; keeps = keeps; below = below } where
+      Low : Span
+      Low = lower_half b (cut_of b)
+
+      High : Span
+      High = upper_half b (cut_of b)
+
+      F : Spot → Option Span
+      F = without (spot_of l d b) f
+
+      child : (w : Tree) → IsPart l (fork b s t) d (d + 1) w → (z : Spot) (c : Span) → spot_of l (d + 1) (root w) ≡ z → root w ≡ c → IsChild l lawful f F g last n listed d (fork b s t) z c
+      child w k z c x y =
+          let depth : z.depth ≡ d + 1 = sym (ap (λ (q : Spot). q.depth) x) in
+          record { part = w; at = k; box = y; depth = depth; place = sym x ∙ (λ j. spot_of l (sym depth j) (y j)) }
+
+      low_part : IsPart l (fork b s t) d (d + 1) s
+      low_part = inr (inl (part_root l s (d + 1)))
+
+      high_part : IsPart l (fork b s t) d (d + 1) t
+      high_part = inr (inr (part_root l t (d + 1)))
+
+      new : (z : Spot) (c : Span) → with_halves l d b F z ≡ Some c → ((f z ≡ Some c) × (is_eq (spot_cmp (spot_of l d b) z) ≡ false)) ⊎ IsChild l lawful f (with_halves l d b F) g last n listed d (fork b s t) z c
+      new z c k = elim (entry_cases (spot_of l (d + 1) High) High (with_entry (spot_of l (d + 1) Low) Low F) z c k) as (λ _. ((f z ≡ Some c) × (is_eq (spot_cmp (spot_of l d b) z) ≡ false)) ⊎ IsChild l lawful f (with_halves l d b F) g last n listed d (fork b s t) z c) [
+        | inl x ↦ inr (recast (child t high_part z c (ap (spot_of l (d + 1)) i.3 ∙ x.0) (i.3 ∙ x.1)))
+        | inr y ↦ elim (entry_cases (spot_of l (d + 1) Low) Low F z c y) as (λ _. ((f z ≡ Some c) × (is_eq (spot_cmp (spot_of l d b) z) ≡ false)) ⊎ IsChild l lawful f (with_halves l d b F) g last n listed d (fork b s t) z c) [
+          | inl x ↦ inr (recast (child s low_part z c (ap (spot_of l (d + 1)) i.2 ∙ x.0) (i.2 ∙ x.1)))
+          | inr w ↦
+              let x = without_cases (spot_of l d b) f z c w in
+              inl (x.1, x.0)
+        ]
+      ] where
+        recast : IsChild l lawful f F g last n listed d (fork b s t) z c → IsChild l lawful f (with_halves l d b F) g last n listed d (fork b s t) z c
+        recast x = record { part = x.part; at = x.at; box = x.box; depth = x.depth; place = x.place }
+
+      -- what waits at the place of a half is that half
+      same_half : (w : Tree) → IsPart l (fork b s t) d (d + 1) w → (z : Spot) (c : Span) → IsAt l z c → is_eq (spot_cmp (spot_of l (d + 1) (root w)) z) ≡ true → root w ≡ c
+      same_half w k z c a x =
+          let spots = spot_same (spot_of l (d + 1) (root w)) z x in
+          let depth : z.depth ≡ d + 1 = sym (ap (λ (q : Spot). q.depth) spots) in
+          let whole_w = part_trans l (tree_of l) 0 d (d + 1) (fork b s t) w at k in
+          let corner : (root w).lo ≡ (root a.part).lo = ap (λ (q : Spot). q.key.steps) (spots ∙ a.place) ∙ (λ j. (sym a.box j).lo) in
+          ap root (same_part l (tree_of l) 0 (d + 1) w a.part (whole l lawful) whole_w (subst (λ m. IsPart l (tree_of l) 0 m a.part) depth a.at) corner) ∙ a.box
+
+      keeps : (z : Spot) (c : Span) → IsAt l z c → f z ≡ Some c → is_eq (spot_cmp (spot_of l d b) z) ≡ false → with_halves l d b F z ≡ Some c
+      keeps z c a k x = by (is_eq (spot_cmp (spot_of l (d + 1) High) z))
+          (λ y. ap (λ e. if e then Some High else with_entry (spot_of l (d + 1) Low) Low F z) y ∙ ap Some (sym i.3 ∙ same_half t high_part z c a (subst (λ m. is_eq (spot_cmp (spot_of l (d + 1) m) z) ≡ true) (sym i.3) y)))
+          (λ y. ap (λ e. if e then Some High else with_entry (spot_of l (d + 1) Low) Low F z) y ∙ by (is_eq (spot_cmp (spot_of l (d + 1) Low) z))
+          (λ w. ap (λ e. if e then Some Low else F z) w ∙ ap Some (sym i.2 ∙ same_half s low_part z c a (subst (λ m. is_eq (spot_cmp (spot_of l (d + 1) m) z) ≡ true) (sym i.2) w)))
+          (λ w. ap (λ e. if e then Some Low else F z) w ∙ ap (λ e. if e then None else f z) x ∙ k))
+
+      two_places : is_eq (spot_cmp (spot_of l (d + 1) High) (spot_of l (d + 1) Low)) ≡ false
+      two_places = by (is_eq (spot_cmp (spot_of l (d + 1) High) (spot_of l (d + 1) Low)))
+          (λ x.
+          let corner : High.lo ≡ Low.lo = ap (λ (q : Spot). q.key.steps) (spot_same (spot_of l (d + 1) High) (spot_of l (d + 1) Low) x) in
+          let two = halved l b i.0 i.1 in
+          absurd (not_both_halves b (cut_of b) i.0.box two.cuts Low.lo (corner_within l Low Low two.lower.box (inside_itself l Low))
+          (subst (λ r. IsWithin r High) corner (corner_within l High High two.upper.box (inside_itself l High)))))
+          (λ x. x)
+
+      low_waits : with_halves l d b F (spot_of l (d + 1) Low) ≡ Some Low
+      low_waits =
+          ap (λ e. if e then Some High else with_entry (spot_of l (d + 1) Low) Low F (spot_of l (d + 1) Low)) two_places
+          ∙ ap (λ e. if e then Some Low else F (spot_of l (d + 1) Low)) (equal_itself (spot_of l (d + 1) Low))
+
+      high_waits : with_halves l d b F (spot_of l (d + 1) High) ≡ Some High
+      high_waits = ap (λ e. if e then Some High else with_entry (spot_of l (d + 1) Low) Low F (spot_of l (d + 1) High)) (equal_itself (spot_of l (d + 1) High))
+
+      covered : (w : Tree) (e : ℕ) (v : Tree) → IsPart l (fork b s t) d (d + 1) w → IsPart l w (d + 1) e v → (c : Span) → root w ≡ c → with_halves l d b F (spot_of l (d + 1) c) ≡ Some c → IsCovered l (with_halves l d b F) e v
+      covered w e v k m c x y = record {
+        depth = d + 1;
+        above = w;
+        at = part_trans l (tree_of l) 0 d (d + 1) (fork b s t) w at k;
+        below = m;
+        waits = subst (λ a. with_halves l d b F (spot_of l (d + 1) a) ≡ Some a) (sym x) y;
+      }
+
+      below : (e : ℕ) (v : Tree) → IsPart l (fork b s t) d e v → ((e ≡ d) × (v ≡ fork b s t)) ⊎ IsCovered l (with_halves l d b F) e v
+      below e v (inl k) = inl (sym k.0, sym k.1)
+      below e v (inr (inl k)) = inr (covered s e v low_part k Low i.2 low_waits)
+      below e v (inr (inr k)) = inr (covered t e v high_part k High i.3 high_waits)
+
+  -- at the start only the box of all recipes waits
+  count_none : (t : Tree) (k : ℕ) → count (done_in l None) k t ≡ 0
+  count_none (leaf b) k = refl
+  count_none (fork b s t) k = omega (arith, count_none s (k + 1), count_none t (k + 1))
+
+  pub first_state : State l (with_entry (spot_of l 0 l.top) l.top (λ z. None)) (λ z. None) None 0 [] None
+  first_state = record {
+    waits = λ z b h. elim (entry_cases (spot_of l 0 l.top) l.top (λ q. None) z b h) as (λ _. IsAt l z b) [
+      | inl x ↦
+          let depth : z.depth ≡ 0 = sym (ap (λ (q : Spot). q.depth) x.0) in
+          record {
+            part = tree_of l;
+            at = subst (λ k. IsPart l (tree_of l) 0 k (tree_of l)) (sym depth) (part_root l (tree_of l) 0);
+            box = whole_root l ∙ x.1;
+            place = sym x.0 ∙ (λ j. spot_of l (sym depth j) (x.1 j));
+          }
+      | inr x ↦ absurd (none_some b x)
+    ];
+    later = λ z b h. refl;
+    covers = λ e v i h. record {
+      depth = 0;
+      above = tree_of l;
+      at = part_root l (tree_of l) 0;
+      below = i;
+      waits = subst (λ b. with_entry (spot_of l 0 l.top) l.top (λ q. None) (spot_of l 0 b) ≡ Some b) (sym (whole_root l)) (ap (λ c. if c then Some l.top else None) (equal_itself (spot_of l 0 l.top)));
+    };
+    counted = count_none (tree_of l) 0;
+    written = λ e v i. refl;
+    clean = λ e v i x y. absurd (false≢true x);
+    rising = λ i j d a b. absurd (omega (arith, b));
+    each = All-nil (IsOpen l None);
+    every = λ e v i x y. absurd (false≢true x);
+    shallow = λ z b h. elim (entry_cases (spot_of l 0 l.top) l.top (λ q. None) z b h) as (λ _. z.depth ≤ 0) [
+      | inl x ↦ omega (arith, ap (λ (q : Spot). q.depth) x.0)
+      | inr x ↦ absurd (none_some b x)
+    ];
+    short = omega arith;
+  }
+
+  -- the judged places are those of the first ranks
+  done_down : (last : Option Spot) (w z : Spot) → is_done last z ≡ true → first w z ≡ true → is_done last w ≡ true
+  done_down None w z h k = absurd (false≢true h)
+  done_down (Some p) w z h k = ap not (by (first p w) (λ x. absurd (false≢true (sym (not_true (first p z) h) ∙ before_on p w z x (not_both w z k)))) (λ x. x))
+
+  done_before : (last : Option Spot) (w z : Spot) → is_done last z ≡ false → is_done last w ≡ true → first w z ≡ true
+  done_before None w z h k = absurd (false≢true k)
+  done_before (Some p) w z h k = on_before w p z (not_true (first p w) k) (not_false (first p z) h)
+
+  module _ (f : Spot → Option Span) (g : Spot → Option CertLine) (last : Option Spot) (n : ℕ) (listed : List (List ℕ)) (won : Option (List ℕ)) (s : State l f g last n listed won) where
+    pub ranked : (e : ℕ) (v : Tree) → IsPart l (tree_of l) 0 e v → is_judged l n e (root v) ≡ done_in l last e (root v)
+    ranked e v i = by (done_in l last e (root v))
+        (λ h.
+        let less = count_lt l (λ d b. first (spot_of l d b) (spot_of l e (root v))) (done_in l last) (tree_of l) 0 e v (λ d w j x. done_down last (spot_of l d (root w)) (spot_of l e (root v)) h x) i (not_itself (spot_of l e (root v))) h in
+        lt_test (rank l (spot_of l e (root v))) n (omega (arith, less, s.counted)) ∙ sym h)
+        (λ h.
+        let more = count_le l (done_in l last) (λ d b. first (spot_of l d b) (spot_of l e (root v))) (tree_of l) 0 (λ d w j x. done_before last (spot_of l d (root w)) (spot_of l e (root v)) h x) in
+        ge_test (rank l (spot_of l e (root v))) n (omega (arith, more, s.counted)) ∙ sym h)
+
+    pub canonical_at : (budget : ℕ) (claim : Claim) → n ≡ min (need l) budget → IsClaim l budget claim → IsCanonical l budget claim listed (canonical_lines l n) n
+    canonical_at budget claim e c = record {
+      judged = e;
+      claimed = c;
+      tree_is = refl;
+      rising = s.rising;
+      each = All-weaker (IsOpen l last) (Contains cs) marked listed s.each;
+      every = All-from_recursion (Contains listed) cs
+          (at_top l lawful listed budget n (λ bs xs. AllByRecursion (Contains listed) (corners is_undecided_line bs xs))
+          (corners_are l (is_judged l n) (Contains listed) is_undecided_line refl (tree_of l) 0 (whole l lawful) (λ d u i j h. s.every d u i (sym (ranked d u i) ∙ j) h) [] [] tt));
+    } where
+      cs : List (List ℕ)
+      cs = corners is_undecided_line (l.top ∷ []) (canonical_lines l n)
+
+      marked : (r : List ℕ) → IsOpen l last r → Contains cs r
+      marked r o =
+          let judged = ranked o.depth o.part o.at ∙ o.judged in
+          let there = mark l (is_judged l n) is_undecided_line o.depth o.part judged o.line (tree_of l) 0 (whole l lawful) o.at
+          (λ d u i p. judged_above l lawful n d o.depth u o.part i p judged) [] [] in
+          let listed_ = at_top l lawful listed budget n (λ bs xs. is_listed (corners is_undecided_line bs xs) (root o.part).lo ≡ true) there in
+          subst (Contains cs) o.corner (Contains-from_any (λ a b. (bytes_eq-Decides a b).0) (root o.part).lo cs listed_)
+
+  -- the answer is one
+  one_answer : (r : List ℕ) → IsWithin r l.top → is_match l r ≡ true → ((a : List ℕ) → IsFirstMatch l a → a ≡ r) → answer_of l ≡ Some r
+  one_answer r w m same = go (answer_of l) refl where
+    go : (o : Option (List ℕ)) → answer_of l ≡ o → answer_of l ≡ Some r
+    go None e = absurd (false≢true (sym (subst (IsAnswer l) e (answer l lawful) r w) ∙ m))
+    go (Some a) e = e ∙ ap Some (same a (first_is l lawful a e))
+
+  no_fork_single : (u : Tree) → IsTree l u → is_single (root u) ≡ true → leaf (root u) ≡ u
+  no_fork_single (leaf b) i h = refl
+  no_fork_single (fork b x y) i h = absurd (false≢true (sym i.1 ∙ or_right (is_shut l b) (is_single b) h))
+
+  -- a recipe passes: it is the answer, and the judged boxes are those that are needed
+  module _ (f : Spot → Option Span) (g : Spot → Option CertLine) (n : ℕ) (listed : List (List ℕ)) (d : ℕ) (u : Tree)
+      (s : State l f g (Some (spot_of l d (root u))) n listed (Some (root u).lo)) (at : IsPart l (tree_of l) 0 d u) (h : is_pass_line (line_of l (root u)) ≡ true) where
+    abbrev Q : Spot
+    Q = spot_of l d (root u)
+
+    leaf_u : IsPart l (tree_of l) 0 d (leaf (root u))
+    leaf_u = subst (λ w. IsPart l (tree_of l) 0 d w) (sym (no_fork_single u (at_tree l lawful d u at) (passing l (root u) h).0.alone)) at
+
+    first_one : (a : List ℕ) → IsFirstMatch l a → a ≡ (root u).lo
+    first_one a m = go (found l lawful a m.grid m.matches) where
+      go : Found l a → a ≡ (root u).lo
+      go x = by (done_in l (Some Q) x.depth x.box)
+          (λ y. sym (some_same (root u).lo a (s.clean x.depth (leaf x.box) x.part y x.line ∙ ap Some x.corner)))
+          (λ y.
+          let late = key_not_before (spot_of l x.depth x.box) Q (not_both Q (spot_of l x.depth x.box) (not_false (first Q (spot_of l x.depth x.box)) y)) in
+          let key : is_before l a (root u).lo ≡ false = subst (λ r. is_before l r (root u).lo ≡ false) x.corner late in
+          tied_keys (key_of l a) (key_of l (root u).lo) key (m.first (root u).lo (corner_in l lawful d u at) (line_match l (root u) h)))
+
+    pub won_is : answer_of l ≡ Some (root u).lo
+    won_is = one_answer (root u).lo (corner_in l lawful d u at) (line_match l (root u) h) first_one
+
+    needed_done : (e : ℕ) (v : Tree) → IsPart l (tree_of l) 0 e v → is_needed l (Some (root u).lo) (root v) ≡ true → done_in l (Some Q) e (root v) ≡ true
+    needed_done e v i x = ap not (by (is_before l (root v).lo (root u).lo)
+        (λ y. not_both (spot_of l e (root v)) Q (before_by_key (spot_of l e (root v)) Q y))
+        (λ y. not_deeper (spot_of l e (root v)) Q key (alike l lawful d e (root u) v leaf_u i (tied_keys (key_of l (root u).lo) (key_of l (root v).lo) key y)))) where
+          key : is_before l (root u).lo (root v).lo ≡ false
+          key = not_true (is_before l (root u).lo (root v).lo) x
+
+    pub won_need : need l ≡ n
+    won_need =
+        let more = count_le l (λ e b. is_needed l (Some (root u).lo) b) (done_in l (Some Q)) (tree_of l) 0 needed_done in
+        let less = count_le l (done_in l (Some Q)) (λ e b. is_needed l (Some (root u).lo) b) (tree_of l) 0
+        (λ e v i x. ap not (key_not_before Q (spot_of l e (root v)) (not_true (first Q (spot_of l e (root v))) x))) in
+        let same : count (λ e b. is_needed l (Some (root u).lo) b) 0 (tree_of l) ≡ n = omega (arith, more, less, s.counted) in
+        ap (λ o. count (λ e b. is_needed l o b) 0 (tree_of l)) won_is ∙ same
+
+  module _ (f : Spot → Option Span) (g : Spot → Option CertLine) (last : Option Spot) (n : ℕ) (listed : List (List ℕ)) (s : State l f g last n listed None) where
+    -- a recipe that passes is that of a box that is not judged
+    not_done : (a : List ℕ) → (x : Found l a) → done_in l last x.depth x.box ≡ false
+    not_done a x = by (done_in l last x.depth x.box) (λ y. absurd (none_some x.box.lo (s.clean x.depth (leaf x.box) x.part y x.line))) (λ y. y)
+
+    -- no box waits: no recipe passes, and all boxes are judged
+    module _ (empty : (z : Spot) → f z ≡ None) where
+      all_done : (e : ℕ) (v : Tree) → IsPart l (tree_of l) 0 e v → done_in l last e (root v) ≡ true
+      all_done e v i = by (done_in l last e (root v)) (λ x. x)
+          (λ x.
+          let c = s.covers e v i x in
+          absurd (none_some (root c.above) (sym (empty (spot_of l c.depth (root c.above))) ∙ c.waits)))
+
+      pub none_is : answer_of l ≡ None
+      none_is = go (answer_of l) refl where
+        go : (o : Option (List ℕ)) → answer_of l ≡ o → answer_of l ≡ None
+        go None e = e
+        go (Some a) e =
+            let m = first_is l lawful a e in
+            let x = found l lawful a m.grid m.matches in
+            absurd (false≢true (sym (not_done a x) ∙ all_done x.depth (leaf x.box) x.part))
+
+      pub none_need : need l ≡ n
+      none_need =
+          let more = count_le l (λ e b. is_needed l None b) (done_in l last) (tree_of l) 0 (λ e v i x. all_done e v i) in
+          let less = count_le l (done_in l last) (λ e b. is_needed l None b) (tree_of l) 0 (λ e v i x. refl) in
+          let same : count (λ e b. is_needed l None b) 0 (tree_of l) ≡ n = omega (arith, more, less, s.counted) in
+          ap (λ o. count (λ e b. is_needed l o b) 0 (tree_of l)) none_is ∙ same
+
+    -- a box waits: more boxes are needed, and the first of those that wait has the next rank
+    module _ (q : Spot) (c : Span) (here : f q ≡ Some c) (least : (z : Spot) (b : Span) → f z ≡ Some b → first z q ≡ false) where
+      a : IsAt l q c
+      a = s.waits q c here
+
+      pub next_rank : rank l q ≡ n
+      next_rank =
+          let more = count_le l (done_in l last) (λ e b. first (spot_of l e b) q) (tree_of l) 0 (λ e v i x. done_before last (spot_of l e (root v)) q (s.later q c here) x) in
+          let less = count_le l (λ e b. first (spot_of l e b) q) (done_in l last) (tree_of l) 0 (λ e v i x. by (done_in l last e (root v)) (λ y. y)
+          (λ y.
+          let w = s.covers e v i y in
+          let low = least (spot_of l w.depth (root w.above)) (root w.above) w.waits in
+          let high = below_after l lawful w.above v w.depth e (at_tree l lawful w.depth w.above w.at) w.below in
+          absurd (false≢true (sym (not_after q (spot_of l w.depth (root w.above)) (spot_of l e (root v)) low high) ∙ x)))) in
+          omega (arith, more, less, s.counted)
+
+      more_needed : (o : Option (List ℕ)) → answer_of l ≡ o → n < count (λ e b. is_needed l o b) 0 (tree_of l)
+      more_needed None e =
+          let not_yet : done_in l last q.depth (root a.part) ≡ false = subst (λ z. is_done last z ≡ false) (a.place ∙ (λ j. spot_of l q.depth (sym a.box j))) (s.later q c here) in
+          let more = count_lt l (done_in l last) (λ k b. is_needed l None b) (tree_of l) 0 q.depth a.part (λ k v i x. refl) a.at not_yet refl in
+          omega (arith, more, s.counted)
+      more_needed (Some r) e =
+          let m = first_is l lawful r e in
+          let x = found l lawful r m.grid m.matches in
+          let itself : is_needed l (Some r) x.box ≡ true = ap not (subst (λ w. is_before l r w ≡ false) (sym x.corner) (never_before_itself l r)) in
+          let more = count_lt l (done_in l last) (λ k b. is_needed l (Some r) b) (tree_of l) 0 x.depth (leaf x.box)
+          (λ k v i y. ap not (subst (λ w. is_before l w (root v).lo ≡ false) x.corner
+          (key_not_before (spot_of l x.depth x.box) (spot_of l k (root v)) (not_both (spot_of l k (root v)) (spot_of l x.depth x.box) (done_before last (spot_of l k (root v)) (spot_of l x.depth x.box) (not_done r x) y)))))
+          x.part (not_done r x) itself in
+          omega (arith, more, s.counted)
+
+      pub floor_need : n < need l
+      floor_need = more_needed (answer_of l) refl

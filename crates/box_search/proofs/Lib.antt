@@ -1,0 +1,11 @@
+mod Certs
+mod Emitting
+mod Endings
+mod Finding
+mod Frontier
+mod Orders
+mod Ranks
+mod Trees
+mod Turning
+mod Valid
+mod Walks

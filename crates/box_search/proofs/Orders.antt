@@ -1,0 +1,151 @@
+-- The order of places.
+use Rattle.std.proofs.Common.{◌≡◌, ◌≤◌, ℕ, List, [], ◌∷◌, Bool, true, false, refl, sym, ap, ◌∙◌, arith}
+use Rattle.std.proofs.lemmas.Bool.{false≢true}
+use Rattle.std.proofs.lemmas.Bool.Decides.{nat_tests}
+use Rattle.std.proofs.lemmas.Slice.Eq.{bytes_eq-Decides}
+use Rattle.std.proofs.lemmas.Map.Text.{is_eq-slice_cmp}
+use Rattle.std.specs.Cmp.Lexicographic.{slice_cmp}
+use Rattle.price_grid.specs.Grid.{IsUpTo}
+use Rattle.std.specs.Cmp.{IsTotalOrder, nat_cmp_total, on_total, then_total, tied_itself, upto}
+use Rattle.std.specs.Ordering.{is_eq, is_gt, is_lt, nat_cmp, ordering_reverse, ordering_then}
+use Rattle.std.specs.declared.cmp.Ordering.{Ordering}
+use Rattle.std.specs.declared.cmp.Ordering.TheVariants.{Equal, Greater, Less}
+use Rattle.price_grid.specs.Order.{KeyView, key_cmp}
+use Rattle.price_grid.proofs.CostLaws.{keys_are_ordered}
+use Rattle.box_specs.specs.Tree.{Spot, spot_cmp}
+
+pub spots_are_ordered : IsTotalOrder spot_cmp
+spots_are_ordered = then_total (on_total (λ (s : Spot). s.key) keys_are_ordered) (on_total (λ (s : Spot). s.depth) nat_cmp_total)
+
+lt_turned : (o : Ordering) → is_lt (ordering_reverse o) ≡ is_gt o
+lt_turned Less = refl
+lt_turned Equal = refl
+lt_turned Greater = refl
+
+-- the first place stands before the second
+abbrev pub first : Spot → Spot → Bool
+first a b = is_lt (spot_cmp a b)
+
+pub turned : (a b : Spot) → first a b ≡ is_gt (spot_cmp b a)
+turned a b = ap is_lt (spots_are_ordered.antisymm a b) ∙ lt_turned (spot_cmp b a)
+
+pub not_itself : (a : Spot) → first a a ≡ false
+not_itself a = ap is_lt (tied_itself spots_are_ordered a)
+
+-- a is not after b, nor b after c: nor is a after c
+pub not_after : (a b c : Spot) → first b a ≡ false → first c b ≡ false → first c a ≡ false
+not_after a b c h k = turned c a ∙ upto spots_are_ordered a b c (sym (turned b a) ∙ h) (sym (turned c b) ∙ k)
+
+pub not_both : (a b : Spot) → first a b ≡ true → first b a ≡ false
+not_both a b h = go (spot_cmp a b) refl where
+  go : (o : Ordering) → spot_cmp a b ≡ o → first b a ≡ false
+  go Less e = turned b a ∙ ap is_gt e
+  go Equal e = turned b a ∙ ap is_gt e
+  go Greater e = absurd (false≢true (sym (ap is_lt e) ∙ h))
+
+-- by cases on a test
+pub by : {P : Type 0} (b : Bool) → (b ≡ true → P) → (b ≡ false → P) → P
+by true f g = f refl
+by false f g = g refl
+
+-- before what is not after
+pub before_on : (a b c : Spot) → first a b ≡ true → first c b ≡ false → first a c ≡ true
+before_on a b c h k = by (first a c) (λ e. e) (λ e. absurd (false≢true (sym (not_after b c a k e) ∙ h)))
+
+pub on_before : (a b c : Spot) → first b a ≡ false → first b c ≡ true → first a c ≡ true
+on_before a b c h k = by (first a c) (λ e. e) (λ e. absurd (false≢true (sym (not_after c a b e h) ∙ k)))
+
+-- a place has a key that is not after another's where it is not after a place with that key
+key_of_lt : (k d : Ordering) → is_lt (ordering_then k d) ≡ false → is_lt k ≡ false
+key_of_lt Less d h = h
+key_of_lt Equal d h = refl
+key_of_lt Greater d h = refl
+
+pub key_not_before : (a b : Spot) → first a b ≡ false → is_lt (key_cmp a.key b.key) ≡ false
+key_not_before a b h = key_of_lt (key_cmp a.key b.key) (nat_cmp a.depth b.depth) h
+
+lt_of_key : (k d : Ordering) → is_lt k ≡ true → is_lt (ordering_then k d) ≡ true
+lt_of_key Less d h = refl
+lt_of_key Equal d h = absurd (false≢true h)
+lt_of_key Greater d h = absurd (false≢true h)
+
+pub before_by_key : (a b : Spot) → is_lt (key_cmp a.key b.key) ≡ true → first a b ≡ true
+before_by_key a b h = lt_of_key (key_cmp a.key b.key) (nat_cmp a.depth b.depth) h
+
+-- neither stands before the other: they have one recipe and one depth
+pub record IsTied (a b : Spot) : Type 0 where
+  pub key : is_lt (key_cmp a.key b.key) ≡ false
+  pub steps : a.key.steps ≡ b.key.steps
+  pub depth : a.depth ≡ b.depth
+
+equal_of : (o : Ordering) → is_lt o ≡ false → is_gt o ≡ false → o ≡ Equal
+equal_of Less h k = absurd (false≢true (sym h))
+equal_of Equal h k = refl
+equal_of Greater h k = absurd (false≢true (sym k))
+
+pub equal_one : (k d : Ordering) → ordering_then k d ≡ Equal → k ≡ Equal
+equal_one Less d h = h
+equal_one Equal d h = refl
+equal_one Greater d h = h
+
+pub equal_two : (k d : Ordering) → ordering_then k d ≡ Equal → d ≡ Equal
+equal_two Less d h = absurd (false≢true (ap is_eq h))
+equal_two Equal d h = h
+equal_two Greater d h = absurd (false≢true (ap is_eq h))
+
+pub same_number : (m n : ℕ) → nat_cmp m n ≡ Equal → m ≡ n
+same_number m n h = grind (arith, nat_tests, h)
+
+pub same_list : (a b : List ℕ) → slice_cmp nat_cmp a b ≡ Equal → a ≡ b
+same_list a b h = (bytes_eq-Decides a b).0 (sym (is_eq-slice_cmp a b) ∙ ap is_eq h)
+
+pub tied_keys : (a b : KeyView) → is_lt (key_cmp a b) ≡ false → is_lt (key_cmp b a) ≡ false → a.steps ≡ b.steps
+tied_keys a b h k =
+    let o = equal_of (key_cmp a b) h (sym (ap is_lt (keys_are_ordered.antisymm b a) ∙ lt_turned (key_cmp a b)) ∙ k) in
+    same_list a.steps b.steps (equal_two (nat_cmp a.cost b.cost) (slice_cmp nat_cmp a.steps b.steps) o)
+
+pub tied : (a b : Spot) → first a b ≡ false → first b a ≡ false → IsTied a b
+tied a b h k =
+    let o = equal_of (spot_cmp a b) h (sym (turned b a) ∙ k) in
+    let key = equal_one (key_cmp a.key b.key) (nat_cmp a.depth b.depth) o in
+    record {
+      key = key_not_before a b h;
+      steps = same_list a.key.steps b.key.steps (equal_two (nat_cmp a.key.cost b.key.cost) (slice_cmp nat_cmp a.key.steps b.key.steps) key);
+      depth = same_number a.depth b.depth (equal_two (key_cmp a.key b.key) (nat_cmp a.depth b.depth) o);
+    }
+
+-- what is up to another in each part is not after it
+then_up : (a b : Ordering) → is_gt a ≡ false → is_gt b ≡ false → is_gt (ordering_then a b) ≡ false
+then_up Less b h k = refl
+then_up Equal b h k = k
+then_up Greater b h k = h
+
+number_up : (m n : ℕ) → m ≤ n → is_gt (nat_cmp m n) ≡ false
+number_up m n h = grind (arith, nat_tests, h)
+
+list_up : (a b : List ℕ) → IsUpTo a b → is_gt (slice_cmp nat_cmp a b) ≡ false
+list_up [] [] h = refl
+list_up [] (y ∷ b) h = absurd h
+list_up (x ∷ a) [] h = absurd h
+list_up (x ∷ a) (y ∷ b) h = then_up (nat_cmp x y) (slice_cmp nat_cmp a b) (number_up x y h.0) (list_up a b h.1)
+
+pub spot_up : (a b : Spot) → a.key.cost ≤ b.key.cost → IsUpTo a.key.steps b.key.steps → a.depth ≤ b.depth → first b a ≡ false
+spot_up a b c s d =
+    turned b a
+    ∙ then_up (key_cmp a.key b.key) (nat_cmp a.depth b.depth) (then_up (nat_cmp a.key.cost b.key.cost) (slice_cmp nat_cmp a.key.steps b.key.steps) (number_up _ _ c) (list_up _ _ s)) (number_up _ _ d)
+
+-- a key that does not stand before another costs no less
+pub cost_not_before : (a b : KeyView) → is_lt (key_cmp a b) ≡ false → b.cost ≤ a.cost
+cost_not_before a b h =
+    let c = key_of_lt (nat_cmp a.cost b.cost) (slice_cmp nat_cmp a.steps b.steps) h in
+    not_less a.cost b.cost c where
+      not_less : (m n : ℕ) → is_lt (nat_cmp m n) ≡ false → n ≤ m
+      not_less m n e = grind (arith, nat_tests, e)
+
+-- a place with a key that is not after another's, at a depth that is no greater, is not after it
+pub not_deeper : (a b : Spot) → is_lt (key_cmp b.key a.key) ≡ false → a.depth ≤ b.depth → first b a ≡ false
+not_deeper a b h d =
+    turned b a ∙ then_up (key_cmp a.key b.key) (nat_cmp a.depth b.depth) (sym (ap is_lt (keys_are_ordered.antisymm b.key a.key) ∙ lt_turned (key_cmp a.key b.key)) ∙ h) (number_up _ _ d)
+
+pub equal_spot : (a b : Spot) → first a b ≡ false → first b a ≡ false → spot_cmp a b ≡ Equal
+equal_spot a b h k = equal_of (spot_cmp a b) h (sym (turned b a) ∙ k)

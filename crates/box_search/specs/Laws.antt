@@ -1,0 +1,20 @@
+-- The laws of a search and its certificate.
+use Rattle.std.specs.Prelude.{◌+◌, ◌*◌, ◌≤◌, ℕ, List, length}
+use Rattle.box_specs.specs.declared.certificate.CertLine.{CertLine}
+use Rattle.box_specs.specs.declared.certificate.Claim.{Claim}
+use Rattle.box_specs.specs.Answer.{all_recipes}
+use Rattle.box_specs.specs.Canonical.{IsCanonical}
+use Rattle.box_specs.specs.Landscape.{IsLawful, Land}
+use Rattle.box_specs.specs.Span.{IsBox}
+use Rattle.box_specs.specs.Tree.{need}
+use Rattle.box_specs.specs.Validity.{IsValid}
+
+-- what a search of any budget ends with is valid
+abbrev pub CanonicalIsValid : Land → Type 0
+CanonicalIsValid l =
+    IsLawful l → (budget : ℕ) (claim : Claim) (listed : List (List ℕ)) (tree : List CertLine) (boxes : ℕ)
+    → IsCanonical l budget claim listed tree boxes → IsValid l claim listed tree
+
+-- of G recipes at most 2G - 1 boxes are needed, so that a search of that budget never ends at the budget
+abbrev pub NeedIsSmall : Land → Type 0
+NeedIsSmall l = IsBox l.top → need l + 1 ≤ 2 * length (all_recipes l)

@@ -1,0 +1,93 @@
+//! The search itself.
+
+ghost use Rattle.std.specs.Prelude.{◌≡◌, ◌+◌, ◌≤◌, IfOk, Bool, true};
+ghost use Rattle.box_specs.specs.Validity.{is_pass_line};
+ghost use Rattle.box_search.specs.Answers.{IsFound};
+ghost use Rattle.box_search.specs.Places.{at, lists};
+
+use crate::place::{Place, place_of};
+use crate::turn::turn;
+use box_core::{BoxR, CertLine, Claim, Landscape};
+use price_grid::{Steps, copy_of};
+use std::alloc::{AllocError, Global};
+use std::collections::BTreeMap;
+
+/// What a search has found: all of its certificate but the tree, and the lines of the boxes that
+/// were judged.
+#[derive(Drop)]
+pub(crate) struct Found {
+    pub claim: Claim,
+    pub boxes: u32,
+    pub undecided: Vec<Steps>,
+    pub done: BTreeMap<Place, CertLine>,
+}
+
+/// Whether a line says that a recipe passes.
+fn is_pass(line: CertLine) -> bool
+    ensures { result ≡ is_pass_line line }
+{
+    match line {
+        CertLine::Pass => true,
+        _ => false,
+    }
+}
+
+/// Judges boxes in their order until a recipe passes, no box is left, or the budget is spent.
+pub(crate) fn find<L: Landscape>(
+    alloc: Global,
+    land: &L,
+    budget: u32,
+    meter: &mut L::Meter,
+) -> Result<Found, AllocError>
+    requires { budget ≤ 1000000 }
+    ensures found { IfOk result (λ r. IsFound (L.land land.now) budget r.claim
+        (lists r.undecided.items) r.boxes (at r.done)) }
+    ensures judged { IfOk result (λ r. L.judged_count land.now meter.new
+        ≤ L.judged_count land.now meter.old + r.boxes) }
+    ensures at_most { L.judged_count land.now meter.new
+        ≤ L.judged_count land.now meter.old + budget }
+{
+    let top = land.top();
+    let mut waiting = BTreeMap::new(alloc);
+    let mut done = BTreeMap::new(alloc);
+    let mut undecided = Vec::new(alloc);
+    let first = place_of(land, &top, 0);
+    waiting.insert(first, top)?;
+    for boxes in 0..budget {
+        let Some((place, part)) = waiting.pop_first() else {
+            return Ok(Found {
+                claim: Claim::NoMatch,
+                boxes,
+                undecided,
+                done,
+            });
+        };
+        let line = turn(
+            land,
+            &mut waiting,
+            &mut done,
+            &mut undecided,
+            place,
+            &part,
+            meter,
+        )?;
+        if is_pass(line) {
+            return Ok(Found {
+                claim: Claim::Match(copy_of(&part.lo)),
+                boxes: boxes + 1,
+                undecided,
+                done,
+            });
+        }
+    }
+    let claim = match waiting.first_key_value() {
+        None => Claim::NoMatch,
+        Some((place, _)) => Claim::Floor(place.key.cost),
+    };
+    Ok(Found {
+        claim,
+        boxes: budget,
+        undecided,
+        done,
+    })
+}

@@ -1,0 +1,13 @@
+//! The laws of a search and its certificate. A call does nothing; what it ensures is the law.
+ghost use Rattle.box_specs.specs.Landscape.{Land};
+ghost use Rattle.box_search.specs.Laws.{CanonicalIsValid, NeedIsSmall};
+
+/// The certificate that a search ends with is valid, whatever the budget.
+pub fn canonical()
+    ensures { (l : Land) → CanonicalIsValid l }
+{}
+
+/// A search among G recipes needs at most 2G - 1 boxes.
+pub fn need()
+    ensures { (l : Land) → NeedIsSmall l }
+{}

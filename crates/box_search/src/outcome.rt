@@ -1,0 +1,54 @@
+//! The search, with its certificate.
+
+ghost use Rattle.std.specs.Prelude.{◌≡◌, ◌+◌, ◌≤◌, IfOk};
+ghost use Rattle.box_specs.specs.Canonical.{IsCanonical};
+ghost use Rattle.box_specs.specs.Validity.{IsValid};
+
+use crate::emit::emit;
+use crate::find::{Found, find};
+use box_core::{Cert, Landscape, LineList, StepsList};
+use std::alloc::{AllocError, Global};
+
+/// What a search ends with: its certificate, and how many boxes it judged.
+#[derive(Debug, Drop)]
+pub struct Outcome {
+    pub cert: Cert,
+    pub boxes: u32,
+}
+
+/// Looks for the first recipe, by cost and then by steps, that is admitted and passes. Boxes are
+/// judged in the order of their places, up to the budget. The certificate shows what was found.
+pub fn search<L: Landscape>(
+    alloc: Global,
+    land: &L,
+    budget: u32,
+    meter: &mut L::Meter,
+) -> Result<Outcome, AllocError>
+    requires some { 1 ≤ budget }
+    requires few { budget ≤ 1000000 }
+    ensures canonical { IfOk result (λ r. IsCanonical (L.land land.now) budget
+        r.cert.claim r.cert.undecided r.cert.lines r.boxes) }
+    ensures valid { IfOk result (λ r. IsValid (L.land land.now)
+        r.cert.claim r.cert.undecided r.cert.lines) }
+    ensures judged { IfOk result (λ r. L.judged_count land.now meter.new
+        ≤ L.judged_count land.now meter.old + r.boxes) }
+    ensures at_most { L.judged_count land.now meter.new
+        ≤ L.judged_count land.now meter.old + budget }
+{
+    let found = find(alloc, land, budget, meter)?;
+    let top = land.top();
+    let mut lines = Vec::new(alloc);
+    emit(land, &found.done, &top, 0, &mut lines)?;
+    let Found {
+        claim,
+        boxes,
+        undecided,
+        done: _,
+    } = found;
+    let cert = Cert {
+        claim,
+        undecided: StepsList::of(undecided),
+        lines: LineList::of(lines),
+    };
+    Ok(Outcome { cert, boxes })
+}
