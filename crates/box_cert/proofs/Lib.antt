@@ -1,0 +1,15 @@
+mod Counting
+mod Cuts
+mod Recipes
+mod Pieces
+mod Certs
+mod Wholes
+mod TextLines
+mod Fronts
+mod Steps
+mod Parts
+mod Numerals
+mod Takes
+mod Again
+mod OneLine
+mod WholeText

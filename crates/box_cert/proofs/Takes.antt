@@ -1,0 +1,313 @@
+-- What is read is spelled so.
+use Rattle.std.proofs.Common.{◌≡◌, ◌==◌, ℕ, zero, suc, ◌+◌, ◌<◌, ◌^◌, Bool, true, false, List, [], ◌∷◌, ◌++◌, length, flat_map, refl, sym, ap, ◌∙◌, subst, arith, append_assoc, decimal, if◌then◌else◌, ◌⊎◌, inl, inr}
+use Rattle.std.specs.Prelude.{Option, Some, None, Result, Ok, Err, option_map, option_and_then, codes}
+use Rattle.std.specs.Str.{bytes_eq}
+use Rattle.std.proofs.lemmas.Bool.Decides.{nat_tests}
+use Rattle.std.proofs.lemmas.List.{append-nil}
+use Rattle.std.proofs.lemmas.Slice.Eq.{bytes_eq-Decides}
+use Rattle.box_specs.specs.declared.certificate.CertFault.{CertFault}
+use Rattle.box_specs.specs.declared.certificate.CertLine.{CertLine}
+use Rattle.box_specs.specs.declared.certificate.CertLine.TheVariants.{Dear, Fail, Limit, Pass, Split, Undecided}
+use Rattle.box_specs.specs.declared.certificate.CertRule.{CertRule}
+use Rattle.box_specs.specs.declared.certificate.CertRule.TheVariants.{BadClaim, BadHeader, BadLine}
+use Rattle.box_specs.specs.declared.certificate.Claim.{Claim}
+use Rattle.box_specs.specs.declared.certificate.Claim.TheVariants.{Floor, Match, NoMatch}
+use Rattle.box_cert.specs.Lines.{cut_at, in_front, lettered, line_of, numbers_at, recipe_of, split_of}
+use Rattle.box_cert.specs.Numbers.{number_of}
+use Rattle.box_cert.specs.Spelling.{Content, cert_text, claim_text, count_text, ended, head_text, line_text, lines_text, numbers_text, recipes_text}
+use Rattle.box_cert.specs.Text.{◌>>=◌, Place, byte_first, cert_of, claim_in, claim_of, count_in, count_of, header_of, line_then, lines_of, next_of, nothing_left, parts_of, place_of, recipes_at, said, trees_at, trees_from}
+use Rattle.box_cert.proofs.Cuts.{cut_takes}
+use Rattle.box_cert.proofs.Numerals.{number_takes}
+use Rattle.box_cert.proofs.Parts.{then_claim, then_count, then_end, then_list, then_tree}
+
+none_some : {A : Type 0} (x : A) → None ≡ Some x → ⊥
+none_some x h = cc
+
+err_ok : {A : Type 0} (e : CertFault) (x : A) → Err e ≡ Ok x → ⊥
+err_ok e x h = cc
+
+some_or : {A : Type 0} → A → Option A → A
+some_or d None = d
+some_or d (Some x) = x
+
+some_same : {A : Type 0} (x y : A) → Some x ≡ Some y → x ≡ y
+unfolding some_or
+some_same x y h = ap (some_or x) h
+
+ok_or : {A : Type 0} → A → Result A CertFault → A
+ok_or d (Err e) = d
+ok_or d (Ok x) = x
+
+abbrev good : {A : Type 0} → A → Result A CertFault
+good x = Ok x
+
+ok_same : {A : Type 0} (x y : A) → good x ≡ good y → x ≡ y
+unfolding ok_or
+ok_same x y h = ap (ok_or x) h
+
+-- what was read before, and what was read then
+pub bind_ok : {A B : Type 0} (r : Result A CertFault) (f : A → Result B CertFault) (y : B) → (r >>= f) ≡ Ok y → (x : A) × (r ≡ Ok x) × (f x ≡ Ok y)
+bind_ok (Ok x) f y h = (x, refl, h)
+bind_ok (Err e) f y h = absurd (err_ok e y h)
+
+map_some : {A B : Type 0} (f : A → B) (o : Option A) (y : B) → option_map f o ≡ Some y → (x : A) × (o ≡ Some x) × (f x ≡ y)
+map_some f None y h = absurd (none_some y h)
+map_some f (Some x) y h = (x, refl, some_same (f x) y h)
+
+then_some : {A B : Type 0} (f : A → Option B) (o : Option A) (y : B) → option_and_then f o ≡ Some y → (x : A) × (o ≡ Some x) × (f x ≡ Some y)
+then_some f None y h = absurd (none_some y h)
+then_some f (Some x) y h = (x, refl, h)
+
+chosen : {A : Type 0} (b : Bool) (x y z : Option A) → (if b then x else y) ≡ z → ((b ≡ true) × (x ≡ z)) ⊎ (y ≡ z)
+chosen true x y z h = inl (refl, h)
+chosen false x y z h = inr h
+
+-- numbers with one space between
+first_read : (o : Option ℕ) (more : Option (List ℕ)) (ns : List ℕ) → in_front o more ≡ Some ns → (n : ℕ) × (ms : List ℕ) × (o ≡ Some n) × (more ≡ Some ms) × (ns ≡ n ∷ ms)
+first_read None more ns h = absurd (none_some ns h)
+first_read (Some n) more ns h = let m = map_some (λ xs. n ∷ xs) more ns h in (n, m.0, refl, m.1, sym m.2)
+
+spaced : (n : ℕ) (ns : List ℕ) → 0 < length ns → numbers_text (n ∷ ns) ≡ decimal n ++ (32 ∷ numbers_text ns)
+spaced n [] h = absurd (omega arith)
+spaced n (m ∷ ns) h = refl
+
+-- a recipe that is read
+pub record AreSpelled (k : ℕ) (text : List ℕ) (ns : List ℕ) : Type 0 where
+  pub is : text ≡ numbers_text ns
+  pub count : length ns ≡ suc k
+
+pub numbers_takes : (k : ℕ) (text ns : List ℕ) → numbers_at k text ≡ Some ns → AreSpelled k text ns
+numbers_takes zero text ns h =
+    let m = map_some (λ n. n ∷ []) (number_of 0 4000 text) ns h in
+    let s = number_takes 0 4000 text m.0 (omega arith) m.1 in
+    record { is = s.is ∙ ap numbers_text m.2; count = sym (ap length m.2) }
+numbers_takes (suc k) text ns h =
+    let c = then_some (λ r. in_front (number_of 0 4000 r.0) (numbers_at k r.1)) (cut_at 32 text) ns h in
+    let r = c.0 in
+    let f = first_read (number_of 0 4000 r.0) (numbers_at k r.1) ns c.2 in
+    let s = number_takes 0 4000 r.0 f.0 (omega arith) f.2 in
+    let more = numbers_takes k r.1 f.1 f.3 in
+    record {
+      is = cut_takes 32 text r c.1 ∙ ap (λ w. w ++ (32 ∷ r.1)) s.is ∙ ap (λ t. decimal f.0 ++ (32 ∷ t)) more.is ∙ sym (spaced f.0 f.1 (omega (arith, more.count))) ∙ ap numbers_text (sym f.4);
+      count = ap length f.4 ∙ ap suc more.count;
+    }
+
+pub recipe_takes : (dims : ℕ) (text ns : List ℕ) → recipe_of dims text ≡ Some ns → text ≡ numbers_text ns
+recipe_takes zero text ns h = absurd (none_some ns h)
+recipe_takes (suc k) text ns h = (numbers_takes k text ns h).is
+
+is_it : (b mark : ℕ) → (b == mark) ≡ true → b ≡ mark
+is_it b mark h = grind (arith, nat_tests)
+
+-- a line of a tree
+pub line_takes : (text : List ℕ) (line : CertLine) → line_of text ≡ Some line → text ≡ line_text line
+unfolding line_text
+line_takes [] line h = absurd (none_some line h)
+line_takes (letter ∷ []) line h = first (letter == 100) (letter == 117) (letter == 112) refl refl refl h where
+  first : (a b c : Bool) → (letter == 100) ≡ a → (letter == 117) ≡ b → (letter == 112) ≡ c
+      → (if a then Some Dear else (if b then Some Undecided else (if c then Some Pass else None))) ≡ Some line → letter ∷ [] ≡ line_text line
+  first true b c p q r e = ap (λ x. x ∷ []) (is_it letter 100 p) ∙ ap line_text (some_same Dear line e)
+  first false true c p q r e = ap (λ x. x ∷ []) (is_it letter 117 q) ∙ ap line_text (some_same Undecided line e)
+  first false false true p q r e = ap (λ x. x ∷ []) (is_it letter 112 r) ∙ ap line_text (some_same Pass line e)
+  first false false false p q r e = absurd (none_some line e)
+line_takes (letter ∷ (space ∷ text)) line h = second (space == 32) refl h where
+  limit : option_map (λ k. Limit k) (number_of 1 5 text) ≡ Some line → 120 ∷ (32 ∷ text) ≡ line_text line
+  limit e =
+      let m = map_some (λ k. Limit k) (number_of 1 5 text) line e in
+      ap (λ t. 120 ∷ (32 ∷ t)) (number_takes 1 5 text m.0 (omega arith) m.1).is ∙ ap line_text m.2
+
+  light : option_map (λ k. Fail k) (number_of 1 4 text) ≡ Some line → 102 ∷ (32 ∷ text) ≡ line_text line
+  light e =
+      let m = map_some (λ k. Fail k) (number_of 1 4 text) line e in
+      ap (λ t. 102 ∷ (32 ∷ t)) (number_takes 1 4 text m.0 (omega arith) m.1).is ∙ ap line_text m.2
+
+  split : split_of text ≡ Some line → 115 ∷ (32 ∷ text) ≡ line_text line
+  split e =
+      let c = then_some (λ r. option_and_then (λ dye. option_map (λ mid. Split dye mid) (number_of 0 4000 r.1)) (number_of 1 12 r.0)) (cut_at 32 text) line e in
+      let r = c.0 in
+      let d = then_some (λ dye. option_map (λ mid. Split dye mid) (number_of 0 4000 r.1)) (number_of 1 12 r.0) line c.2 in
+      let m = map_some (λ mid. Split d.0 mid) (number_of 0 4000 r.1) line d.2 in
+      let dye = number_takes 1 12 r.0 d.0 (omega arith) d.1 in
+      let mid = number_takes 0 4000 r.1 m.0 (omega arith) m.1 in
+      ap (λ t. 115 ∷ (32 ∷ t)) (cut_takes 32 text r c.1 ∙ ap (λ w. w ++ (32 ∷ r.1)) dye.is ∙ ap (λ w. decimal d.0 ++ (32 ∷ w)) mid.is) ∙ ap line_text m.2
+
+  third : (a b c : Bool) → (letter == 115) ≡ a → (letter == 120) ≡ b → (letter == 102) ≡ c
+      → (if a then split_of text else (if b then option_map (λ k. Limit k) (number_of 1 5 text) else (if c then option_map (λ j. Fail j) (number_of 1 4 text) else None))) ≡ Some line
+      → letter ∷ (32 ∷ text) ≡ line_text line
+  third true b c p q r e = ap (λ x. x ∷ (32 ∷ text)) (is_it letter 115 p) ∙ split e
+  third false true c p q r e = ap (λ x. x ∷ (32 ∷ text)) (is_it letter 120 q) ∙ limit e
+  third false false true p q r e = ap (λ x. x ∷ (32 ∷ text)) (is_it letter 102 r) ∙ light e
+  third false false false p q r e = absurd (none_some line e)
+
+  second : (b : Bool) → (space == 32) ≡ b → (if b then lettered letter text else None) ≡ Some line → letter ∷ (space ∷ text) ≡ line_text line
+  second true p e = ap (λ x. letter ∷ (x ∷ text)) (is_it space 32 p) ∙ third (letter == 115) (letter == 120) (letter == 102) refl refl refl e
+  second false p e = absurd (none_some line e)
+
+same_bytes : (a b : List ℕ) → bytes_eq a b ≡ true → a ≡ b
+same_bytes a b h = (bytes_eq-Decides a b).0 h
+
+-- the first three lines
+header_takes : (line : List ℕ) (x : Unit {0}) → header_of line ≡ Some x → line ≡ codes "dye-cert 1"
+header_takes line x h = go (bytes_eq line (codes "dye-cert 1")) refl h where
+  go : (b : Bool) → bytes_eq line (codes "dye-cert 1") ≡ b → (if b then Some tt else None) ≡ Some x → line ≡ codes "dye-cert 1"
+  go true p e = same_bytes line _ p
+  go false p e = absurd (none_some x e)
+
+claim_takes : (dims : ℕ) (line : List ℕ) (claim : Claim) → claim_of dims line ≡ Some claim → line ≡ claim_text claim
+claim_takes dims line claim h = go (cut_at 32 line) refl h where
+  none : (b : Bool) → bytes_eq line (codes "none") ≡ b → (if b then Some NoMatch else None) ≡ Some claim → line ≡ claim_text claim
+  none true p e = same_bytes line _ p ∙ ap claim_text (some_same NoMatch claim e)
+  none false p e = absurd (none_some claim e)
+
+  worded : (r : List ℕ × List ℕ) → line ≡ r.0 ++ (32 ∷ r.1) → (a b : Bool) → bytes_eq r.0 (codes "match") ≡ a → bytes_eq r.0 (codes "floor") ≡ b
+      → (if a then option_map (λ ns. Match (record { items = ns })) (recipe_of dims r.1) else (if b then option_map (λ cost. Floor cost) (number_of 0 (10 ^ 15) r.1) else None)) ≡ Some claim
+      → line ≡ claim_text claim
+  worded r l true b p q e =
+      let m = map_some (λ ns. Match (record { items = ns })) (recipe_of dims r.1) claim e in
+      l ∙ ap (λ w. w ++ (32 ∷ r.1)) (same_bytes r.0 (codes "match") p) ∙ ap (λ t. codes "match" ++ (32 ∷ t)) (recipe_takes dims r.1 m.0 m.1) ∙ ap claim_text m.2
+  worded r l false true p q e =
+      let m = map_some (λ cost. Floor cost) (number_of 0 (10 ^ 15) r.1) claim e in
+      l ∙ ap (λ w. w ++ (32 ∷ r.1)) (same_bytes r.0 (codes "floor") q) ∙ ap (λ t. codes "floor" ++ (32 ∷ t)) (number_takes 0 (10 ^ 15) r.1 m.0 (omega arith) m.1).is ∙ ap claim_text m.2
+  worded r l false false p q e = absurd (none_some claim e)
+
+  go : (o : Option (List ℕ × List ℕ)) → cut_at 32 line ≡ o → claim_in dims line o ≡ Some claim → line ≡ claim_text claim
+  go None p e = none (bytes_eq line (codes "none")) refl e
+  go (Some r) p e = worded r (cut_takes 32 line r p) (bytes_eq r.0 (codes "match")) (bytes_eq r.0 (codes "floor")) refl refl e
+
+count_takes : (line : List ℕ) (count : ℕ) → count_of line ≡ Some count → line ≡ count_text count
+count_takes line count h = go (cut_at 32 line) refl h where
+  worded : (r : List ℕ × List ℕ) → line ≡ r.0 ++ (32 ∷ r.1) → (a : Bool) → bytes_eq r.0 (codes "undecided") ≡ a → (if a then number_of 0 1000000 r.1 else None) ≡ Some count → line ≡ count_text count
+  worded r l true p e = l ∙ ap (λ w. w ++ (32 ∷ r.1)) (same_bytes r.0 (codes "undecided") p) ∙ ap (λ t. codes "undecided" ++ (32 ∷ t)) (number_takes 0 1000000 r.1 count (omega arith) e).is
+  worded r l false p e = absurd (none_some count e)
+
+  go : (o : Option (List ℕ × List ℕ)) → cut_at 32 line ≡ o → count_in o ≡ Some count → line ≡ count_text count
+  go None p e = absurd (none_some count e)
+  go (Some r) p e = worded r (cut_takes 32 line r p) (bytes_eq r.0 (codes "undecided")) refl e
+
+-- the text from a place on
+abbrev pub text_at : List (List ℕ) → List ℕ → List ℕ
+text_at lines left = flat_map (λ line. ended line) lines ++ left
+
+abbrev pub text_of : Place → List ℕ
+text_of p = text_at p.lines p.left
+
+joined_first : (b : ℕ) (r : List (List ℕ) × List ℕ) (bs : List ℕ) → text_at r.0 r.1 ≡ bs → text_at (byte_first b r).0 (byte_first b r).1 ≡ b ∷ bs
+joined_first b ([], left) bs h = ap (λ t. b ∷ t) h
+joined_first b ((line ∷ lines), left) bs h = ap (λ t. b ∷ t) h
+
+-- the lines of a text make it again
+pub lines_joined : (text : List ℕ) → text_at (lines_of text).0 (lines_of text).1 ≡ text
+lines_joined [] = refl
+lines_joined (b ∷ bs) = go (b == 10) refl (lines_of bs) (lines_joined bs) where
+  go : (q : Bool) → (b == 10) ≡ q → (r : List (List ℕ) × List ℕ) → text_at r.0 r.1 ≡ bs
+      → text_at (if q then ([] ∷ r.0, r.1) else byte_first b r).0 (if q then ([] ∷ r.0, r.1) else byte_first b r).1 ≡ b ∷ bs
+  go true p r h = ap (λ t. 10 ∷ t) h ∙ ap (λ x. x ∷ bs) (sym (is_it b 10 p))
+  go false p r h = joined_first b r bs h
+
+-- a line that was read in front of what follows
+pub record Taken {A : Type 0} (kind : List ℕ → Option A) (text : List ℕ) (y : A × Place) : Type 0 where
+  pub line : List ℕ
+  pub is : kind line ≡ Some y.0
+  pub joined : text ≡ ended line ++ text_of y.1
+
+next_taken : {A : Type 0} (rule : CertRule) (kind : List ℕ → Option A) (number : ℕ) (lines : List (List ℕ)) (left : List ℕ) (y : A × Place)
+    → next_of rule kind (record { number = number; lines = lines; left = left }) ≡ Ok y → Taken kind (text_at lines left) y
+next_taken rule kind number [] left y h = absurd (err_ok _ y h)
+next_taken rule kind number (line ∷ lines) left y h = go (kind line) refl h where
+  q : Place
+  q = record { number = number + 1; lines = lines; left = left }
+
+  go : (o : Option _) → kind line ≡ o → said number rule o (record { number = number + 1; lines = lines; left = left }) ≡ Ok y → Taken kind (text_at (line ∷ lines) left) y
+  go None p e = absurd (err_ok _ y e)
+  go (Some x) p e =
+      let P : (_ × Place) → Type 0 = λ z. Taken kind (text_at (line ∷ lines) left) z in
+      subst P (ok_same _ y e) (record { line = line; is = p; joined = append_assoc (ended line) (flat_map (λ l. ended l) lines) left })
+
+pub next_takes : {A : Type 0} (rule : CertRule) (kind : List ℕ → Option A) (p : Place) (y : A × Place) → next_of rule kind p ≡ Ok y → Taken kind (text_of p) y
+next_takes rule kind p y h = next_taken rule kind p.number p.lines p.left y h
+
+-- the listed recipes
+pub record ListTaken (count : ℕ) (text : List ℕ) (y : List (List ℕ) × Place) : Type 0 where
+  pub joined : text ≡ recipes_text y.0 ++ text_of y.1
+  pub many : length y.0 ≡ count
+
+pub recipes_takes : (dims k : ℕ) (p : Place) (y : List (List ℕ) × Place) → recipes_at dims k p ≡ Ok y → ListTaken k (text_of p) y
+recipes_takes dims zero p y h =
+    let P : (List (List ℕ) × Place) → Type 0 = λ z. ListTaken 0 (text_of p) z in
+    subst P (ok_same _ y h) (record { joined = refl; many = refl })
+recipes_takes dims (suc k) p y h =
+    let a = bind_ok (next_of BadLine (recipe_of dims) p) (λ r. recipes_at dims k r.1 >>= λ rs. Ok (r.0 ∷ rs.0, rs.1)) y h in
+    let r = a.0 in
+    let b = bind_ok (recipes_at dims k r.1) (λ rs. Ok (r.0 ∷ rs.0, rs.1)) y a.2 in
+    let t = next_takes BadLine (recipe_of dims) p r a.1 in
+    let more = recipes_takes dims k r.1 b.0 b.1 in
+    let P : (List (List ℕ) × Place) → Type 0 = λ z. ListTaken (suc k) (text_of p) z in
+    subst P (ok_same _ y b.2) (record {
+      joined = t.joined ∙ ap (λ l. ended l ++ text_of r.1) (recipe_takes dims t.line r.0 t.is) ∙ ap (λ m. ended (numbers_text r.0) ++ m) more.joined
+          ∙ sym (append_assoc (ended (numbers_text r.0)) (recipes_text b.0.0) (text_of b.0.1));
+      many = ap suc more.many;
+    })
+
+-- the lines of trees
+pub trees_take : (k number : ℕ) (lines : List (List ℕ)) (left : List ℕ) (y : List CertLine × Place) → trees_from k number lines left ≡ Ok y → text_at lines left ≡ lines_text y.0 ++ text_of y.1
+trees_take zero number lines left y h =
+    let P : (List CertLine × Place) → Type 0 = λ z. text_at lines left ≡ lines_text z.0 ++ text_of z.1 in
+    subst P (ok_same _ y h) refl
+trees_take (suc k) number [] left y h = absurd (err_ok _ y h)
+trees_take (suc k) number (text ∷ lines) left y h = go (line_of text) refl (λ line z. trees_take (parts_of line + k) (number + 1) lines left z) h where
+  go : (o : Option CertLine) → line_of text ≡ o
+      → ((line : CertLine) (z : List CertLine × Place) → trees_from (parts_of line + k) (number + 1) lines left ≡ Ok z → text_at lines left ≡ lines_text z.0 ++ text_of z.1)
+      → line_then number o (λ line. trees_from (parts_of line + k) (number + 1) lines left) ≡ Ok y → text_at (text ∷ lines) left ≡ lines_text y.0 ++ text_of y.1
+  go None p more e = absurd (err_ok _ y e)
+  go (Some line) p more e =
+      let b = bind_ok (trees_from (parts_of line + k) (number + 1) lines left) (λ r. Ok (line ∷ r.0, r.1)) y e in
+      let z = b.0 in
+      let P : (List CertLine × Place) → Type 0 = λ z. text_at (text ∷ lines) left ≡ lines_text z.0 ++ text_of z.1 in
+      subst P (ok_same _ y b.2)
+      (append_assoc (ended text) (flat_map (λ l. ended l) lines) left
+      ∙ ap (λ l. ended l ++ text_at lines left) (line_takes text line p) ∙ ap (λ m. ended (line_text line) ++ m) (more line z b.1)
+      ∙ sym (append_assoc (ended (line_text line)) (lines_text z.0) (text_of z.1)))
+
+-- the end of a text
+pub record IsEnd {A : Type 0} (c d : A) (lines : List (List ℕ)) (left : List ℕ) : Type 0 where
+  pub same : c ≡ d
+  pub none : text_at lines left ≡ []
+
+end_takes : {A : Type 0} (c d : A) (number : ℕ) (lines : List (List ℕ)) (left : List ℕ) → nothing_left c number lines left ≡ Ok d → IsEnd c d lines left
+end_takes c d number [] [] h = record { same = ok_same c d h; none = refl }
+end_takes c d number [] (b ∷ bs) h = absurd (err_ok _ d h)
+end_takes c d number (line ∷ lines) left h = absurd (err_ok _ d h)
+
+pub regrouped : (a b c r l : List ℕ) → a ++ (b ++ (c ++ (r ++ l))) ≡ (((a ++ b) ++ c) ++ r) ++ l
+regrouped a b c r l =
+    sym (append_assoc a b (c ++ (r ++ l))) ∙ sym (append_assoc (a ++ b) c (r ++ l)) ∙ sym (append_assoc ((a ++ b) ++ c) r l)
+
+-- a text that is read is the spelling of what is read
+pub cert_takes : (dims : ℕ) (text : List ℕ) (c : Content) → cert_of dims text ≡ Ok c → text ≡ cert_text c
+unfolding cert_of cert_text head_text
+cert_takes dims text c h =
+    let p1 = place_of 1 text in
+    let h1 = bind_ok (next_of BadHeader header_of p1) (then_claim dims) c h in
+    let t1 = next_takes BadHeader header_of p1 h1.0 h1.1 in
+    let h2 = bind_ok (next_of BadClaim (claim_of dims) h1.0.1) (then_count dims) c h1.2 in
+    let t2 = next_takes BadClaim (claim_of dims) h1.0.1 h2.0 h2.1 in
+    let h3 = bind_ok (next_of BadClaim count_of h2.0.1) (then_list dims h2.0.0) c h2.2 in
+    let t3 = next_takes BadClaim count_of h2.0.1 h3.0 h3.1 in
+    let h4 = bind_ok (recipes_at dims h3.0.0 h3.0.1) (then_tree dims h2.0.0) c h3.2 in
+    let t4 = recipes_takes dims h3.0.0 h3.0.1 h4.0 h4.1 in
+    let h5 = bind_ok (trees_at 1 h4.0.1) (then_end dims h2.0.0 h4.0.0) c h4.2 in
+    let p6 = h5.0.1 in
+    let t5 = trees_take 1 h4.0.1.number h4.0.1.lines h4.0.1.left h5.0 h5.1 in
+    let last = end_takes (record { claim = h2.0.0; listed = h4.0.0; lines = h5.0.0 }) c p6.number p6.lines p6.left h5.2 in
+    let A = ended (codes "dye-cert 1") in
+    let B = ended (claim_text h2.0.0) in
+    let C = ended (count_text (length h4.0.0)) in
+    let R = recipes_text h4.0.0 in
+    let L = lines_text h5.0.0 in
+    let e5 : text_of h4.0.1 ≡ L = t5 ∙ ap (λ t. L ++ t) last.none ∙ append-nil L in
+    let e4 : text_of h3.0.1 ≡ R ++ L = t4.joined ∙ ap (λ t. R ++ t) e5 in
+    let e3 : text_of h2.0.1 ≡ C ++ (R ++ L) =
+    t3.joined ∙ ap (λ l. ended l ++ text_of h3.0.1) (count_takes t3.line h3.0.0 t3.is ∙ ap count_text (sym t4.many)) ∙ ap (λ t. C ++ t) e4 in
+    let e2 : text_of h1.0.1 ≡ B ++ (C ++ (R ++ L)) = t2.joined ∙ ap (λ l. ended l ++ text_of h2.0.1) (claim_takes dims t2.line h2.0.0 t2.is) ∙ ap (λ t. B ++ t) e3 in
+    let e1 : text_of p1 ≡ A ++ (B ++ (C ++ (R ++ L))) = t1.joined ∙ ap (λ l. ended l ++ text_of h1.0.1) (header_takes t1.line h1.0.0 t1.is) ∙ ap (λ t. A ++ t) e2 in
+    sym (lines_joined text) ∙ e1 ∙ regrouped A B C R L ∙ ap cert_text last.same

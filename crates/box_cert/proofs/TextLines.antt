@@ -1,0 +1,25 @@
+-- The lines of a text.
+use Rattle.std.proofs.Common.{◌≡◌, ◌==◌, ℕ, Bool, true, false, List, [], ◌∷◌, refl, ap, ◌∙◌, if◌then◌else◌}
+use Rattle.std.specs.Prelude.{Option, Some, None, option_map}
+use Rattle.box_cert.specs.Lines.{cut_at}
+use Rattle.box_cert.specs.Text.{byte_first, lines_of}
+
+abbrev pub split_at : List ℕ → Option (List ℕ × List ℕ) → List (List ℕ) × List ℕ
+split_at text None = ([], text)
+split_at text (Some r) = (r.0 ∷ (lines_of r.1).0, (lines_of r.1).1)
+
+abbrev onto : ℕ → List ℕ × List ℕ → List ℕ × List ℕ
+onto b r = (b ∷ r.0, r.1)
+
+later : (b : ℕ) (bs : List ℕ) (o : Option (List ℕ × List ℕ)) → byte_first b (split_at bs o) ≡ split_at (b ∷ bs) (option_map (onto b) o)
+later b bs None = refl
+later b bs (Some r) = refl
+
+-- the first line is what stands before the first line feed
+pub lines_cut : (text : List ℕ) → lines_of text ≡ split_at text (cut_at 10 text)
+lines_cut [] = refl
+lines_cut (b ∷ bs) = go (b == 10) (lines_cut bs) where
+  go : (q : Bool) → lines_of bs ≡ split_at bs (cut_at 10 bs)
+      → (if q then ([] ∷ (lines_of bs).0, (lines_of bs).1) else byte_first b (lines_of bs)) ≡ split_at (b ∷ bs) (if q then Some ([], bs) else option_map (onto b) (cut_at 10 bs))
+  go true h = refl
+  go false h = ap (byte_first b) h ∙ later b bs (cut_at 10 bs)

@@ -1,0 +1,5 @@
+pub mod Lines
+pub mod Numbers
+pub mod Spelling
+pub mod Text
+pub mod Writing

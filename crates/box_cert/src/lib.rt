@@ -1,0 +1,15 @@
+//! The text of certificates, both ways: each certificate has one spelling.
+#![tactic(auto)]
+
+mod fault;
+pub mod laws;
+mod line;
+mod number;
+mod read;
+mod write;
+
+pub use box_core::{CertFault, CertRule};
+pub use fault::CertError;
+pub use line::{put_line, put_recipe, read_line, read_recipe};
+pub use read::read_cert;
+pub use write::write_cert;

@@ -1,0 +1,217 @@
+//! Writing a certificate into a file.
+
+ghost use Rattle.std.specs.Prelude.{◌≡◌, ◌≤◌, ◌++◌, [], All, OnOk, flat_map, length};
+ghost use Rattle.arrayvec.specs.ArrayVec.{array_vec_len};
+ghost use Rattle.box_core.specs.Ranges.{ClaimFits, LineFits, StepsFit};
+ghost use Rattle.box_cert.specs.Spelling.{HasNumbers, cert_text, claim_text, content, ended, head_text, line_text, lines_text, numbers_text};
+ghost use Rattle.box_cert.specs.Writing.{Goes, IsHeld, Writes};
+
+use crate::line::{put_line, put_recipe};
+use crate::number::{put_bytes, put_number};
+use arrayvec::ArrayVec;
+use box_core::{Cert, CertLine, Claim};
+use price_grid::Steps;
+use shelf_io::{Failed, Shelf};
+
+/// From how many bytes on a piece is appended before more is put behind it.
+const FULL: usize = 3968;
+
+/// Appends what waits.
+fn flush<H: Shelf>(
+    shelf: &mut H,
+    name: &str,
+    waiting: &mut ArrayVec<u8, 4096>,
+) -> Result<(), Failed>
+    requires { IsHeld name.now (H.view shelf.old) }
+    ensures goes { Goes name.now [] result
+        waiting.old.items (H.view shelf.old) [] (H.view shelf.new) }
+    ensures held { OnOk result (IsHeld name.now (H.view shelf.new)) }
+    ensures empty { OnOk result (waiting.new.items ≡ []) }
+{
+    let Ok(()) = shelf.append(name, waiting.as_slice()) else {
+        return Err(Failed);
+    };
+    waiting.clear();
+    Ok(())
+}
+
+/// Appends what waits, if it is long.
+fn make_room<H: Shelf>(
+    shelf: &mut H,
+    name: &str,
+    waiting: &mut ArrayVec<u8, 4096>,
+) -> Result<(), Failed>
+    requires { IsHeld name.now (H.view shelf.old) }
+    ensures goes { Goes name.now [] result
+        waiting.old.items (H.view shelf.old) waiting.new.items (H.view shelf.new) }
+    ensures held { OnOk result (IsHeld name.now (H.view shelf.new)) }
+    ensures room { OnOk result (array_vec_len waiting.new ≤ 3968) }
+{
+    if waiting.len() > FULL {
+        return flush(shelf, name, waiting);
+    }
+    Ok(())
+}
+
+/// Puts a piece behind what waits.
+fn put<H: Shelf>(
+    shelf: &mut H,
+    name: &str,
+    waiting: &mut ArrayVec<u8, 4096>,
+    piece: &[u8],
+) -> Result<(), Failed>
+    requires held { IsHeld name.now (H.view shelf.old) }
+    requires short { length piece.now ≤ 128 }
+    ensures goes { Goes name.now piece.now result
+        waiting.old.items (H.view shelf.old) waiting.new.items (H.view shelf.new) }
+    ensures held { OnOk result (IsHeld name.now (H.view shelf.new)) }
+{
+    let Ok(()) = make_room(shelf, name, waiting) else {
+        return Err(Failed);
+    };
+    put_bytes(piece, waiting);
+    Ok(())
+}
+
+/// A line of the tree with its line feed.
+fn ended_line(line: &CertLine) -> ArrayVec<u8, 80>
+    requires { LineFits line.now }
+    ensures { result.items ≡ ended (line_text line.now) }
+{
+    let mut text = ArrayVec::new();
+    put_line(line, &mut text);
+    text.push(b'\n');
+    text
+}
+
+/// A recipe with its line feed.
+fn ended_recipe(steps: &Steps) -> ArrayVec<u8, 80>
+    requires some { 1 ≤ length steps.now.items }
+    requires fits { StepsFit steps.now.items }
+    ensures { result.items ≡ ended (numbers_text steps.now.items) }
+{
+    let mut text = ArrayVec::new();
+    put_recipe(steps, &mut text);
+    text.push(b'\n');
+    text
+}
+
+/// Puts the lines of the tree.
+fn put_lines<H: Shelf>(
+    shelf: &mut H,
+    name: &str,
+    waiting: &mut ArrayVec<u8, 4096>,
+    lines: &[CertLine],
+) -> Result<(), Failed>
+    requires held { IsHeld name.now (H.view shelf.old) }
+    requires fit { All LineFits lines.now }
+    ensures goes { Goes name.now (lines_text lines.now) result
+        waiting.old.items (H.view shelf.old) waiting.new.items (H.view shelf.new) }
+    ensures held { OnOk result (IsHeld name.now (H.view shelf.new)) }
+{
+    for line in lines {
+        let Ok(()) = put(shelf, name, waiting, ended_line(line).as_slice()) else {
+            return Err(Failed);
+        };
+    }
+    Ok(())
+}
+
+/// Puts the listed recipes.
+fn put_recipes<H: Shelf>(
+    shelf: &mut H,
+    name: &str,
+    waiting: &mut ArrayVec<u8, 4096>,
+    recipes: &[Steps],
+) -> Result<(), Failed>
+    requires held { IsHeld name.now (H.view shelf.old) }
+    requires some { All (λ s. 1 ≤ length s.items) recipes.now }
+    requires fit { All (λ s. StepsFit s.items) recipes.now }
+    ensures goes { Goes name.now (flat_map (λ s. ended (numbers_text s.items)) recipes.now) result
+        waiting.old.items (H.view shelf.old) waiting.new.items (H.view shelf.new) }
+    ensures held { OnOk result (IsHeld name.now (H.view shelf.new)) }
+{
+    for steps in recipes {
+        let Ok(()) = put(shelf, name, waiting, ended_recipe(steps).as_slice()) else {
+            return Err(Failed);
+        };
+    }
+    Ok(())
+}
+
+/// Appends the line of a claim, with its line feed.
+#[tactic(auto, unfolding(crate::specs::Spelling::claim_text))]
+fn put_claim(claim: &Claim, into: &mut ArrayVec<u8, 80>)
+    requires fits { ClaimFits claim.now }
+    requires some { HasNumbers claim.now }
+    requires room { array_vec_len into.old ≡ 0 }
+    ensures text { into.new.items ≡ into.old.items ++ ended (claim_text claim.now) }
+{
+    match claim {
+        Claim::Match(steps) => {
+            put_bytes(b"match ", into);
+            put_recipe(steps, into);
+        }
+        Claim::NoMatch => put_bytes(b"none", into),
+        Claim::Floor(cost) => {
+            put_bytes(b"floor ", into);
+            put_number(*cost, into);
+        }
+    }
+    into.push(b'\n');
+}
+
+/// The first three lines.
+#[tactic(auto, unfolding(crate::specs::Spelling::head_text))]
+fn head(claim: &Claim, count: usize) -> ArrayVec<u8, 128>
+    requires fits { ClaimFits claim.now }
+    requires some { HasNumbers claim.now }
+    requires few { count ≤ 1000000 }
+    ensures { result.items ≡ head_text claim.now count }
+{
+    let mut line = ArrayVec::new();
+    put_claim(claim, &mut line);
+    let mut text = ArrayVec::new();
+    put_bytes(b"dye-cert 1\n", &mut text);
+    put_bytes(line.as_slice(), &mut text);
+    put_bytes(b"undecided ", &mut text);
+    put_number(count as u64, &mut text);
+    text.push(b'\n');
+    text
+}
+
+/// Puts the whole certificate and appends all of it.
+#[tactic(auto, unfolding(crate::specs::Spelling::cert_text))]
+fn put_cert<H: Shelf>(cert: &Cert, shelf: &mut H, name: &str) -> Result<(), Failed>
+    requires { IsHeld name.now (H.view shelf.old) }
+    ensures { Goes name.now (cert_text (content cert.now)) result
+        [] (H.view shelf.old) [] (H.view shelf.new) }
+{
+    let recipes = cert.undecided.as_slice();
+    let head = head(&cert.claim, recipes.len());
+    let mut waiting = ArrayVec::new();
+    let Ok(()) = put(shelf, name, &mut waiting, head.as_slice()) else {
+        return Err(Failed);
+    };
+    let Ok(()) = put_recipes(shelf, name, &mut waiting, recipes) else {
+        return Err(Failed);
+    };
+    let Ok(()) = put_lines(shelf, name, &mut waiting, cert.lines.as_slice()) else {
+        return Err(Failed);
+    };
+    flush(shelf, name, &mut waiting)
+}
+
+/// Makes the name hold the text of the certificate. It appends at most 4,096 bytes at a time and
+/// takes no memory. After a failure, `Failed`, the name is as before or holds a front of the text.
+pub fn write_cert<H: Shelf>(cert: &Cert, shelf: &mut H, name: &str) -> Result<(), Failed>
+    requires some { 1 ≤ length name.now }
+    requires short { length name.now ≤ 255 }
+    ensures { Writes name.now (cert_text (content cert.now)) result
+        (H.view shelf.old) (H.view shelf.new) }
+{
+    let Ok(()) = shelf.create(name) else {
+        return Err(Failed);
+    };
+    put_cert(cert, shelf, name)
+}
