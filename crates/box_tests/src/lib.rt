@@ -1,9 +1,12 @@
-//! A small landscape of recipes that meets the trait, laws included, and the tests of boxes.
+//! A small landscape of recipes that meets the trait, laws included, and the tests of boxes and of
+//! the check of a certificate.
 #![tactic(auto)]
 
 mod ladder;
 
 pub use ladder::Ladder;
 
+#[cfg(test)]
+mod check_tests;
 #[cfg(test)]
 mod tests;

@@ -1,5 +1,6 @@
 use crate::Ladder;
-use box_core::{BoxR, Evals, Judged, Landscape, corner_key, halves, split};
+use box_core::{BoxR, CertLine, Claim, Evals, Judged, Landscape, corner_key, halves, split};
+use box_search::search;
 use price_grid::Steps;
 use std::test::Fail;
 
@@ -70,5 +71,51 @@ fn judges_a_ladder(rt: HostRuntime) -> Result<(), Fail> {
         assert_eq!(rt; (land.judged(&meter), land.fresh(&meter)), (2, 2));
         assert_eq!(rt; (land.dims(), land.lights()), (1, 1));
     }
+    Ok(())
+}
+
+// The first dye is split after so many steps.
+fn split_after(mid: u16) -> CertLine {
+    CertLine::Split { dye: 1, mid }
+}
+
+#[test]
+fn searches_a_ladder(rt: HostRuntime) -> Result<(), Fail> {
+    let land = Ladder {
+        most: 4,
+        first: 3,
+        last: 4,
+    };
+    let mut meter = Evals::default();
+    let found = search(rt.alloc(), &land, 100, &mut meter)?;
+    assert_eq!(rt; (found.boxes, meter.judged), (6, 6));
+    assert!(rt; matches!(&found.cert.claim, Claim::Match(steps) if steps[0] == 3));
+    assert_eq!(rt;
+        found.cert.lines.as_slice(),
+        [
+            split_after(0),
+            CertLine::Fail(1),
+            split_after(2),
+            CertLine::Fail(1),
+            split_after(3),
+            CertLine::Pass,
+            CertLine::Dear,
+        ]
+        .as_slice()
+    );
+    let stopped = search(rt.alloc(), &land, 3, &mut meter)?;
+    assert_eq!(rt; stopped.boxes, 3);
+    assert!(rt; matches!(&stopped.cert.claim, Claim::Floor(1)));
+    assert_eq!(rt;
+        stopped.cert.lines.as_slice(),
+        [
+            split_after(0),
+            CertLine::Fail(1),
+            split_after(2),
+            CertLine::Dear,
+            CertLine::Dear,
+        ]
+        .as_slice()
+    );
     Ok(())
 }

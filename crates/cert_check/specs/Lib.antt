@@ -1,0 +1,5 @@
+pub mod Laws
+pub mod Marks
+pub mod Ready
+pub mod Result
+pub mod Walk

@@ -1,0 +1,28 @@
+-- Marks beside the listed recipes, one for each: it has an undecided line.
+use Rattle.std.specs.Prelude.{◌≡◌, ◌<◌, ◌+◌, ◌||◌, ℕ, Bool, false, Option, Some, None, List, [], ◌∷◌, length, slice_index_or, if◌then◌else◌}
+use Rattle.box_specs.specs.declared.certificate.CertLine.{CertLine}
+use Rattle.box_specs.specs.declared.certificate.Why.{Why}
+use Rattle.box_specs.specs.declared.certificate.Why.TheVariants.{WrongList}
+use Rattle.box_specs.specs.Validity.{is_listed, is_pass_line}
+
+-- the marks with those of more recipes
+pub record MarksMore (old new : List Bool) (recipes listed : List (List ℕ)) : Type 0 where
+  pub long : length new ≡ length old
+  pub each : (k : ℕ) → k < length listed
+      → slice_index_or new k false ≡ slice_index_or old k false || is_listed recipes (slice_index_or listed k [])
+
+-- the marks, with those of the recipes to come, are those of all recipes
+pub record HasMarks (marks : List Bool) (coming listed all : List (List ℕ)) : Type 0 where
+  pub long : length marks ≡ length listed
+  pub each : (k : ℕ) → k < length listed
+      → slice_index_or marks k false || is_listed coming (slice_index_or listed k []) ≡ is_listed all (slice_index_or listed k [])
+
+-- the first listed recipe without a mark, from the line of this number on
+abbrev pub first_unmarked : ℕ → List Bool → Option (ℕ × Why)
+first_unmarked number [] = None
+first_unmarked number (mark ∷ marks) = if mark then first_unmarked (number + 1) marks else Some (number, WrongList)
+
+-- some line is a pass line
+abbrev pub has_pass_line : List CertLine → Bool
+has_pass_line [] = false
+has_pass_line (line ∷ lines) = is_pass_line line || has_pass_line lines

@@ -1,0 +1,47 @@
+-- What comes of a check.
+use Rattle.std.specs.Prelude.{◌+◌, ℕ, Bool, true, false, if◌then◌else◌, Option, Some, None, List, [], ◌∷◌, length}
+use Rattle.box_specs.specs.declared.certificate.Checked.{Checked}
+use Rattle.box_specs.specs.declared.certificate.Checked.TheVariants.{Accepted, Refused}
+use Rattle.box_specs.specs.declared.certificate.CertLine.{CertLine}
+use Rattle.box_specs.specs.declared.certificate.Claim.{Claim}
+use Rattle.box_specs.specs.declared.certificate.Claim.TheVariants.{Floor, Match, NoMatch}
+use Rattle.box_specs.specs.declared.certificate.Why.{Why}
+use Rattle.box_specs.specs.declared.certificate.Why.TheVariants.{WrongList}
+use Rattle.box_specs.specs.declared.judged.Judged.{Judged}
+use Rattle.box_specs.specs.declared.judged.Judged.TheVariants.{Fail, Limit, Pass, StillOpen, Undecided}
+use Rattle.box_specs.specs.Landscape.{Land}
+use Rattle.box_specs.specs.Validity.{corners, is_pass_line, is_undecided_line, line_failure, or_next, unclaimed_failure, unmarked_failure}
+use Rattle.cert_check.specs.Marks.{has_pass_line}
+
+-- accepted where nothing fails, and else refused at the line of the first failure
+abbrev pub checked_of : Option (ℕ × Why) → Checked
+checked_of None = Accepted
+checked_of (Some failure) = Refused failure.0 failure.1
+
+-- the first failure of the lines of the tree, of the list against them, and of the claim against them
+abbrev pub tree_failure : Land → Claim → List (List ℕ) → List CertLine → Option (ℕ × Why)
+tree_failure l claim listed lines =
+    or_next (line_failure l claim listed (4 + length listed) (l.top ∷ []) lines)
+    (or_next (unmarked_failure l (corners is_undecided_line (l.top ∷ []) lines) 4 listed)
+    (unclaimed_failure l claim (corners is_pass_line (l.top ∷ []) lines)))
+
+-- what judging a box answers
+abbrev pub is_undecided_answer : Judged → Bool
+is_undecided_answer (Limit k) = false
+is_undecided_answer (Fail j) = false
+is_undecided_answer StillOpen = false
+is_undecided_answer Pass = false
+is_undecided_answer Undecided = true
+
+abbrev pub is_pass_answer : Judged → Bool
+is_pass_answer (Limit k) = false
+is_pass_answer (Fail j) = false
+is_pass_answer StillOpen = false
+is_pass_answer Pass = true
+is_pass_answer Undecided = false
+
+-- the recipe of a match has its line where some line is a pass line
+abbrev pub unclaimed_by : Claim → List CertLine → Option (ℕ × Why)
+unclaimed_by (Match recipe) lines = if has_pass_line lines then None else Some (2, WrongList)
+unclaimed_by NoMatch lines = None
+unclaimed_by (Floor cost) lines = None

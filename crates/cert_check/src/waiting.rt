@@ -1,0 +1,65 @@
+//! The boxes that wait for their lines.
+
+ghost use Rattle.std.specs.Prelude.{◌≡◌, MatchOption, IfOk, [], ◌∷◌};
+ghost use Rattle.box_specs.specs.Validity.{after};
+ghost use Rattle.cert_check.specs.Walk.{CanBeCut};
+
+use box_core::{BoxR, CertLine, halves};
+use std::alloc::{AllocError, Global};
+use std::marker::Model;
+
+/// Boxes, the one whose line comes next at the end of the list. Contracts see it as the first.
+#[derive(Drop)]
+pub(crate) struct Waiting {
+    list: Vec<BoxR>,
+}
+
+impl Model for Waiting {
+    ghost use Rattle.std.specs.Prelude.{List, reverse};
+    ghost use Rattle.box_specs.specs.Span.{Span};
+
+    ghost Value = { List Span };
+
+    ghost view = { λ w. reverse w.list.items };
+}
+
+impl Waiting {
+    /// No box.
+    pub(crate) fn new(alloc: Global) -> Waiting
+        ensures { result ≡ [] }
+    {
+        Waiting {
+            list: Vec::new(alloc),
+        }
+    }
+
+    /// Takes the first box out.
+    pub(crate) fn take(&mut self) -> Option<BoxR>
+        ensures { MatchOption result ((self.old ≡ []) × (self.new ≡ []))
+            (λ b. self.old ≡ b ∷ self.new) }
+    {
+        self.list.pop()
+    }
+
+    /// Puts a box before the others.
+    pub(crate) fn put(&mut self, part: BoxR) -> Result<(), AllocError>
+        ensures { IfOk result (λ _. self.new ≡ part ∷ self.old) }
+    {
+        self.list.push(part)?;
+        Ok(())
+    }
+
+    /// Puts the boxes that wait once a box has its line: the halves of one that is split.
+    pub(crate) fn put_after(&mut self, part: &BoxR, line: CertLine) -> Result<(), AllocError>
+        requires { CanBeCut part.now line }
+        ensures { IfOk result (λ _. self.new ≡ after part.now self.old line) }
+    {
+        if let CertLine::Split { dye, mid } = line {
+            if let Some((lower, upper)) = halves(part, dye, mid) {
+                self.put(upper)?;
+                self.put(lower)?;
+            }
+        }
+        Ok(())
+    }
+}
