@@ -21,6 +21,18 @@ pub enum Verdict {
     Undecided,
 }
 
+/// The verdict that claims nothing.
+impl Default for Verdict {
+    ghost use Rattle.std.specs.Prelude.{◌≡◌};
+    ghost use Rattle.metamerism.specs.declared.outcomes.Verdict.TheVariants.{Undecided};
+
+    ghost is_default = { λ v. v ≡ Undecided };
+
+    fn default() -> Verdict {
+        Verdict::Undecided
+    }
+}
+
 impl Verdict {
     ghost use Rattle.std.specs.Prelude.{◌≡◌};
     ghost use Rattle.metamerism.specs.Verdicts.{joint};
