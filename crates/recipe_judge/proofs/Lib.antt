@@ -1,0 +1,10 @@
+mod FewItems
+mod Limits
+pub mod Boxes
+pub mod FinerLaw
+pub mod Within
+pub mod NarrowLaw
+mod LightVerdicts
+mod Kept
+mod LightTurns
+mod Lawful

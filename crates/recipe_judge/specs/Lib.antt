@@ -1,0 +1,4 @@
+pub mod Evaluation
+pub mod Land
+pub mod Laws
+pub mod Recipes

@@ -1,0 +1,25 @@
+//! The law of the differences of recipes. A call does nothing; what it ensures is the law.
+
+ghost use Rattle.price_grid.specs.Grid.{IsRecipe};
+ghost use Rattle.recipe_judge.specs.Laws.{DifferencesEnclose, DifferencesNarrow, EnclosesFinerOf};
+
+use crate::land::RecipeLand;
+use price_grid::Steps;
+
+/// The law of [`RecipeLand::differences`]: those of a recipe enclose those at every finer scale.
+pub fn finer(land: &RecipeLand, steps: &Steps)
+    requires { IsRecipe land.now.grid steps.now.items }
+    ensures { EnclosesFinerOf land.now steps.now.items steps.now.items }
+{
+    let _ = land.job(); // called for its contract alone: what holds of the job
+}
+
+/// The same of the recipes from low to high steps of each dye, for any job.
+pub fn boxes()
+    ensures { DifferencesEnclose }
+{}
+
+/// The law of boxes: the differences over a box enclose those of each recipe in it, at one scale.
+pub fn narrower()
+    ensures { DifferencesNarrow }
+{}
