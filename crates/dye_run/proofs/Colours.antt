@@ -1,6 +1,5 @@
 -- Ratios and CIELAB coordinates of a measured curve keep enclosing where the scale grows from the base scale.
-use Rattle.std.proofs.Common.{◌*◌, ◌<◌, ℕ, List, [], ◌∷◌, All, arith}
-use Rattle.std.proofs.lemmas.List.Elements.{All-cons}
+use Rattle.std.proofs.Common.{◌*◌, ◌<◌, ℕ, List, [], All, arith}
 use Rattle.cielab_bounds.specs.Laws.{EnclosesLab}
 use Rattle.cielab_bounds.proofs.LabLaw.{lab_encloses}
 use Rattle.spectral_tables.specs.Spectrum.{spectrum_at}
@@ -9,7 +8,7 @@ use Rattle.spectral_tables.proofs.SpectrumLaws.{spectrum_encloses}
 use Rattle.fix_bounds.specs.Ratios.{EnclosesRatios}
 use Rattle.tristimulus.specs.Ratios.{ratios_at}
 use Rattle.tristimulus.proofs.RatioLaws.{ratio_not_negative, ratios_enclose}
-use Rattle.dye_run.specs.Answers.{Evaluation, StandsFiner}
+use Rattle.dye_run.specs.Answers.{StandsFiner}
 use Rattle.dye_run.specs.Colours.{curve_lab, curve_ratios}
 
 pub curve_ratios_enclose : (n m : ℕ) (light : WeightTable) (curve : List ℕ) → EnclosesRatios m (curve_ratios light curve n) (curve_ratios light curve (m * n))
@@ -24,6 +23,3 @@ curve_lab_encloses n m light curve some =
 
 pub no_more : All StandsFiner []
 no_more = λ k d h. absurd (omega arith)
-
-pub three : (x y z : Evaluation) → StandsFiner x → StandsFiner y → StandsFiner z → All StandsFiner (x ∷ y ∷ z ∷ [])
-three x y z p q r = All-cons StandsFiner x (y ∷ z ∷ []) p (All-cons StandsFiner y (z ∷ []) q (All-cons StandsFiner z [] r no_more))

@@ -54,11 +54,15 @@ refusal_writes why.Usage = refl
 refusal_writes (why.Unreadable name) = refl
 refusal_writes (why.TooLong name) = refl
 refusal_writes (why.Table name fault) = refl
+refusal_writes (why.Job name fault) = refl
 refusal_writes (why.NoColumn name column) = refl
+refusal_writes (why.Steps limit) = refl
 
 pub refusal_says : (r : Refusal) → refusal_text r ≡ text_of (refusal_outcome r)
 refusal_says why.Usage = refl
 refusal_says (why.Unreadable name) = refl
 refusal_says (why.TooLong name) = refl
 refusal_says (why.Table name fault) = refl
+refusal_says (why.Job name fault) = refl
 refusal_says (why.NoColumn name column) = refl
+refusal_says (why.Steps limit) = refl

@@ -1,29 +1,35 @@
 -- What was read and judged is the input of a command, and what is made of it its outcome.
-use Rattle.std.proofs.Common.{◌≡◌, ℕ, List, Option, Result, Ok, Err, refl, sym, ap, ◌∙◌, subst, inl, inr, arith}
+use Rattle.std.proofs.Common.{◌≡◌, ℕ, List, Option, Some, None, IfSome, Result, Ok, Err, refl, sym, ap, ◌∙◌, subst, inl, inr, arith}
 use Rattle.shelf_io.specs.Changes.{OnlyReads}
 use Rattle.shelf_io.specs.View.{ShelfView}
+use Rattle.shade_report.specs.declared.refusal.Refusal.{Refusal}
 use Rattle.dye_run.specs.Answers as spec
 use Rattle.dye_run.specs.Asking.{Answers, Asking}
-use Rattle.dye_run.specs.Due.{Comes}
+use Rattle.dye_run.specs.Due.{Comes, FailsToRead}
+use Rattle.dye_run.specs.Endings.{Reaches}
 use Rattle.dye_run.specs.Inputs.{◌>>=◌, Tables, asks_tables, table_limit}
-use Rattle.dye_run.specs.Judging.{Gives, IsInput, IsJudged, Reports, Stops, StopsAt}
-use Rattle.dye_run.specs.Outcome.{FileFault, Outcome, outcome_of, refusal_outcome}
-use Rattle.dye_run.specs.declared.report.Report.{Report}
+use Rattle.dye_run.specs.Judging.{Gives, IsInput, Stops, StopsAt, stop_outcome}
+use Rattle.dye_run.specs.Outcome.{Fault, Outcome, outcome_of, refusal_outcome, refused, unreadable}
 use Rattle.dye_run.specs.declared.stop.Stop.{Stop}
-use Rattle.dye_run.specs.declared.stop.Stop.TheVariants as stop
+
+-- a step that refuses its input gives the outcome of the refusal
+refused_outcome : {Y : Type 0} (asking : Asking) (judged : Y → Result spec.Report Fault) (before after : ShelfView) (why : Option Outcome) (step : Result Y Fault)
+    → ((o : Outcome) → o ≡ outcome_of (step >>= judged) → Answers before.contents asking o)
+    → IfSome why (λ o. (fault : Fault) × (o ≡ refused fault) × (step ≡ Err fault)) → IfSome why (λ o. Reaches asking before after o)
+refused_outcome asking judged before after (Some o) step comes gives = inl (comes o (gives.1 ∙ sym (ap (λ s. outcome_of (s >>= judged)) gives.2)))
+refused_outcome asking judged before after None step comes gives = tt
 
 -- what came of the reads and was judged by a step is an input
-pub input_by : {X Y : Type 0} (asking : Asking) (judged : Y → Result spec.Report FileFault) (view : X → Y) (before after : ShelfView) (result : Result X Stop) (step : Result Y FileFault)
+pub input_by : {X Y : Type 0} (asking : Asking) (judged : Y → Result spec.Report Fault) (view : X → Y) (before after : ShelfView) (result : Result X Stop) (step : Result Y Fault)
     → ((o : Outcome) → o ≡ outcome_of (step >>= judged) → Answers before.contents asking o)
-    → Gives view result step → IsInput asking judged view before after result
+    → Gives view result step → IsInput asking (λ x. judged (view x)) before after result
 input_by asking judged view before after (Ok x) step comes gives = comes (outcome_of (judged (view x))) (sym (ap (λ s. outcome_of (s >>= judged)) gives))
-input_by asking judged view before after (Err (stop.Refused r)) step comes gives = inl (comes (refusal_outcome r) (gives.1 ∙ sym (ap (λ s. outcome_of (s >>= judged)) gives.2)))
-input_by asking judged view before after (Err stop.Memory) step comes gives = tt
+input_by asking judged view before after (Err why) step comes gives = refused_outcome asking judged before after (stop_outcome why) step comes gives
 
--- the second of two due files could not be read
-pub stops_second : (curves weights : List ℕ) (before mid after : ShelfView) (came : Option (List ℕ)) (why : Stop) → OnlyReads (λ n. n ≡ curves) before mid → Comes before.contents curves table_limit came → StopsAt weights mid after why
-    → (judged : Tables → Result spec.Report FileFault) → Stops (asks_tables curves weights judged) before after why
-stops_second curves weights before mid after came (stop.Refused r) only comes stops = λ judged.
+unreadable_second : (curves weights : List ℕ) (before mid after : ShelfView) (came : Option (List ℕ)) (why : Option Outcome) → OnlyReads (λ n. n ≡ curves) before mid → Comes before.contents curves table_limit came
+    → IfSome why (λ o. (o ≡ unreadable weights) × FailsToRead mid after weights)
+    → (judged : Tables → Result spec.Report Fault) → IfSome why (λ o. Reaches (asks_tables curves weights judged) before after o)
+unreadable_second curves weights before mid after came (Some o) only comes stops = λ judged.
     inr (
       weights,
       record {
@@ -35,13 +41,14 @@ stops_second curves weights before mid after came (stop.Refused r) only comes st
       },
       stops.0,
     )
-stops_second curves weights before mid after came stop.Memory only comes stops = λ judged. tt
+unreadable_second curves weights before mid after came None only comes stops = λ judged. tt
 
--- what a command makes of its input is its outcome
-pub judged_by : (asking : Asking) (before after : ShelfView) (step : Result spec.Report FileFault) (result : Result Report Stop)
-    → Answers before.contents asking (outcome_of step) → Reports result step → IsJudged asking before after result
-judged_by asking before after step (Ok report) given reports =
-    (reports.0, inl (subst (λ o. Answers before.contents asking o) (ap outcome_of reports.1) given), reports.2)
-judged_by asking before after step (Err (stop.Refused r)) given reports =
-    inl (subst (λ o. Answers before.contents asking o) (sym (reports.1 ∙ sym (ap outcome_of reports.2))) given)
-judged_by asking before after step (Err stop.Memory) given reports = tt
+-- the second of two due files could not be read
+pub stops_second : (curves weights : List ℕ) (before mid after : ShelfView) (came : Option (List ℕ)) (why : Stop) → OnlyReads (λ n. n ≡ curves) before mid → Comes before.contents curves table_limit came → StopsAt weights mid after why
+    → (judged : Tables → Result spec.Report Fault) → Stops (asks_tables curves weights judged) before after why
+stops_second curves weights before mid after came why only comes stops = unreadable_second curves weights before mid after came (stop_outcome why) only comes stops
+
+-- the command comes to the refusal that it stops with
+pub reached_by : (asking : Asking) (before after : ShelfView) (why : Stop) (refusal : Refusal) → Some (refusal_outcome refusal) ≡ stop_outcome why → Stops asking before after why → Reaches asking before after (refusal_outcome refusal)
+reached_by asking before after why refusal is stops =
+    let P : Option Outcome → Type 0 = λ w. IfSome w (λ o. Reaches asking before after o) in subst P (sym is) stops

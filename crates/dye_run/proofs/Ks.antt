@@ -3,11 +3,10 @@ use Rattle.std.proofs.Common.{◌≡◌, ◌+◌, ◌*◌, ◌<◌, ℕ, suc, Li
 use Rattle.std.proofs.Math.Seq.{drop-cons}
 use Rattle.std.proofs.lemmas.List.Elements.{All-cons}
 use Rattle.interval_specs.specs.Ends.{Ends}
-use Rattle.dec_text.specs.FixedPoint.{pair_text}
 use Rattle.ks_curves.specs.KubelkaMunk.{ks_at}
 use Rattle.ks_curves.proofs.ContributionLaws.{ks_encloses}
 use Rattle.spectral_tables.specs.CurveBook.{Book}
-use Rattle.dye_run.specs.Answers.{StandsFiner, base_unit, evaluation, lines_of}
+use Rattle.dye_run.specs.Answers.{StandsFiner, base_unit, evaluation, line, lines_of}
 use Rattle.dye_run.specs.Inputs.{curve_from}
 use Rattle.dye_run.specs.Ks.{KsWords, ks_evaluations, ks_report}
 use Rattle.dye_run.specs.Outcome.{outcome_of}
@@ -22,21 +21,17 @@ pub ks_proper : (words : KsWords) (book : Book) → IsProper (outcome_of (ks_rep
 unfolding ks_report
 ks_proper words book = proper_then (curve_from words.curves words.column book) _ (λ curve. proper_report refl (ks_stands 400 curve))
 
--- a line as the code writes it
-abbrev pub written_line : List ℕ → Ends → List ℕ
-written_line label e = label ++ 32 ∷ pair_text e.lo e.hi ++ 10 ∷ []
-
--- the line of the first place, and those of the rest
-ks_lines-cons : (w m : ℕ) (rest : List ℕ) → lines_of (ks_evaluations w (m ∷ rest)) ≡ written_line (decimal w) (ks_at base_unit m) ++ lines_of (ks_evaluations (w + 10) rest)
+-- the line of the first wavelength, and those of the rest
+ks_lines-cons : (w m : ℕ) (rest : List ℕ) → lines_of (ks_evaluations w (m ∷ rest)) ≡ line (decimal w) (ks_at base_unit m) ++ lines_of (ks_evaluations (w + 10) rest)
 ks_lines-cons w m rest = refl
 
-ks_lines-at : (curve : List ℕ) (k : ℕ) → k < length curve → lines_of (ks_evaluations (400 + 10 * k) (drop k curve)) ≡ written_line (decimal (400 + 10 * k)) (ks_at base_unit (get_or curve k 0)) ++ lines_of (ks_evaluations (400 + 10 * (k + 1)) (drop (k + 1) curve))
+ks_lines-at : (curve : List ℕ) (k : ℕ) → k < length curve → lines_of (ks_evaluations (400 + 10 * k) (drop k curve)) ≡ line (decimal (400 + 10 * k)) (ks_at base_unit (get_or curve k 0)) ++ lines_of (ks_evaluations (400 + 10 * (k + 1)) (drop (k + 1) curve))
 ks_lines-at curve k h =
     let next : (400 + 10 * k) + 10 ≡ 400 + 10 * (k + 1) = omega arith in
-    ap (λ c. lines_of (ks_evaluations (400 + 10 * k) c)) (drop-cons curve k 0 h) ∙ ks_lines-cons (400 + 10 * k) (get_or curve k 0) (drop (suc k) curve) ∙ (λ i. written_line (decimal (400 + 10 * k)) (ks_at base_unit (get_or curve k 0)) ++ lines_of (ks_evaluations (next i) (drop (sym (add-one k) i) curve)))
+    ap (λ c. lines_of (ks_evaluations (400 + 10 * k) c)) (drop-cons curve k 0 h) ∙ ks_lines-cons (400 + 10 * k) (get_or curve k 0) (drop (suc k) curve) ∙ (λ i. line (decimal (400 + 10 * k)) (ks_at base_unit (get_or curve k 0)) ++ lines_of (ks_evaluations (next i) (drop (sym (add-one k) i) curve)))
 
--- one turn of the loop over the places
-pub ks_step : (curve : List ℕ) (k : ℕ) (text new label all : List ℕ) (e : Ends) → k < length curve → text ++ lines_of (ks_evaluations (400 + 10 * k) (drop k curve)) ≡ all → new ≡ text ++ written_line label e → label ≡ decimal (400 + 10 * k) → e ≡ ks_at base_unit (get_or curve k 0) → new ++ lines_of (ks_evaluations (400 + 10 * (k + 1)) (drop (k + 1) curve)) ≡ all
+-- one turn of the loop over the wavelengths
+pub ks_step : (curve : List ℕ) (k : ℕ) (text new label all : List ℕ) (e : Ends) → k < length curve → text ++ lines_of (ks_evaluations (400 + 10 * k) (drop k curve)) ≡ all → new ≡ text ++ line label e → label ≡ decimal (400 + 10 * k) → e ≡ ks_at base_unit (get_or curve k 0) → new ++ lines_of (ks_evaluations (400 + 10 * (k + 1)) (drop (k + 1) curve)) ≡ all
 ks_step curve k text new label all e h so_far is l v =
     let tail = lines_of (ks_evaluations (400 + 10 * (k + 1)) (drop (k + 1) curve)) in
-    ap (λ t. t ++ tail) (is ∙ (λ i. text ++ written_line (l i) (v i))) ∙ append_assoc text (written_line (decimal (400 + 10 * k)) (ks_at base_unit (get_or curve k 0))) tail ∙ ap (λ t. text ++ t) (sym (ks_lines-at curve k h)) ∙ so_far
+    ap (λ t. t ++ tail) (is ∙ (λ i. text ++ line (l i) (v i))) ∙ append_assoc text (line (decimal (400 + 10 * k)) (ks_at base_unit (get_or curve k 0))) tail ∙ ap (λ t. text ++ t) (sym (ks_lines-at curve k h)) ∙ so_far

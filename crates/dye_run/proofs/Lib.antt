@@ -1,11 +1,17 @@
 mod Colours
+mod CoordinateLaws
 mod Diff
 mod DueReads
 mod Ends
+mod JobOutcomes
+mod JobTables
 mod Judged
 mod Ks
 mod Lab
+mod Onwards
 mod Proper
+mod ShowFacts
+mod ShowLaws
 mod Table
 mod Verdicts
 mod Xyz

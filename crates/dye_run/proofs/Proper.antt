@@ -3,15 +3,15 @@
 use Rattle.std.proofs.Common.{◌≡◌, None, Result, Ok, Err, All, refl}
 use Rattle.dye_run.specs.Answers.{Report, StandsFiner}
 use Rattle.dye_run.specs.Inputs.{◌>>=◌}
-use Rattle.dye_run.specs.Outcome.{FileFault, Outcome, outcome_of, refused, reported}
+use Rattle.dye_run.specs.Outcome.{Fault, Outcome, outcome_of, refused, reported}
 
 pub data IsProper (o : Outcome) : Type 0 where
   report : (r : Report) → o ≡ reported r → r.written ≡ None → All StandsFiner r.evaluations → IsProper o
-  refusal : (fault : FileFault) → o ≡ refused fault → IsProper o
+  refusal : (fault : Fault) → o ≡ refused fault → IsProper o
 
 pub proper_report : {r : Report} → r.written ≡ None → All StandsFiner r.evaluations → IsProper (reported r)
 proper_report {r} w v = report r refl w v
 
-pub proper_then : {A : Type 0} (step : Result A FileFault) (next : A → Result Report FileFault) → ((x : A) → IsProper (outcome_of (next x))) → IsProper (outcome_of (step >>= next))
+pub proper_then : {A : Type 0} (step : Result A Fault) (next : A → Result Report Fault) → ((x : A) → IsProper (outcome_of (next x))) → IsProper (outcome_of (step >>= next))
 proper_then (Ok x) next h = h x
 proper_then (Err fault) next h = refusal fault refl

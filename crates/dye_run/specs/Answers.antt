@@ -38,9 +38,13 @@ pub record StandsFiner (e : Evaluation) : Type 0 where
   pub encloses : (m : ℕ) → 0 < m → Encloses m (e.at base_unit) (e.at (m * base_unit))
   pub verdict : (m : ℕ) → 0 < m → VerdictStands e (m * base_unit)
 
--- one line: the label, and both ends at the base scale with 12 places
+-- one line: a label, and both ends with 12 places
+abbrev pub line : List ℕ → Ends → List ℕ
+line label e = label ++ 32 ∷ pair_text e.lo e.hi ++ 10 ∷ []
+
+-- the line of an evaluation, at the base scale
 abbrev pub line_of : Evaluation → List ℕ
-line_of e = e.label ++ 32 ∷ pair_text (e.at base_unit).lo (e.at base_unit).hi ++ 10 ∷ []
+line_of e = line e.label (e.at base_unit)
 
 -- a line for each
 abbrev pub lines_of : List Evaluation → List ℕ

@@ -1,19 +1,23 @@
 -- What each command asks for, and its report.
 use Rattle.std.specs.Prelude.{Option, Some, None}
 use Rattle.dye_run.specs.Asking.{Asking, answers}
+use Rattle.dye_run.specs.Coordinates.{coordinates_report}
 use Rattle.dye_run.specs.Diff.{diff_report}
-use Rattle.dye_run.specs.Forms.{Form, diff, ks, lab, xyz}
+use Rattle.dye_run.specs.Forms.{Form, diff, ks, lab, show, xyz}
 use Rattle.dye_run.specs.Inputs.{asks_book, asks_tables}
+use Rattle.dye_run.specs.Jobs.{asks_job}
 use Rattle.dye_run.specs.Ks.{ks_report}
-use Rattle.dye_run.specs.Lab.{lab_report}
+use Rattle.dye_run.specs.Lab.{lab_evaluations}
 use Rattle.dye_run.specs.Outcome.{usage}
-use Rattle.dye_run.specs.Xyz.{xyz_report}
+use Rattle.dye_run.specs.Show.{show_report, show_rule}
+use Rattle.dye_run.specs.Xyz.{xyz_evaluations}
 
 abbrev pub asking_of : Form → Asking
 asking_of (ks words) = asks_book words.curves (ks_report words)
-asking_of (xyz words) = asks_tables words.curves words.weights (xyz_report words)
-asking_of (lab words) = asks_tables words.curves words.weights (lab_report words)
+asking_of (xyz words) = asks_tables words.curves words.weights (coordinates_report xyz_evaluations words)
+asking_of (lab words) = asks_tables words.curves words.weights (coordinates_report lab_evaluations words)
 asking_of (diff words) = asks_tables words.curves words.weights (diff_report words)
+asking_of (show words) = asks_job show_rule words.job (show_report words)
 
 -- the same for words that may have no form
 abbrev pub asking_for : Option Form → Asking

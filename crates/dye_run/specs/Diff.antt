@@ -6,7 +6,7 @@ use Rattle.spectral_tables.specs.WeightTable.{WeightTable}
 use Rattle.dye_run.specs.Answers.{Evaluation, Report, base_unit, line_of, plain_report, verdict_on}
 use Rattle.dye_run.specs.Colours.{curve_lab}
 use Rattle.dye_run.specs.Inputs.{◌>>=◌, Tables, curve_from}
-use Rattle.dye_run.specs.Outcome.{FileFault}
+use Rattle.dye_run.specs.Outcome.{Fault}
 use Rattle.metamerism.specs.declared.outcomes.Verdict.{Verdict}
 use Rattle.metamerism.specs.declared.outcomes.Verdict.TheVariants.{Fail, Pass, Undecided}
 use Rattle.dye_run.specs.Words.{is_file_word, number_in}
@@ -69,7 +69,7 @@ difference_report (Some t) e =
 
 -- the report, of the curves and the weights of the files: a missing column is that of the standard before that of the
 -- sample
-unfoldable pub diff_report : DiffWords → Tables → Result Report FileFault
+unfoldable pub diff_report : DiffWords → Tables → Result Report Fault
 diff_report words tables = do
   standard ← curve_from words.curves words.standard tables.book
   sample ← curve_from words.curves words.sample tables.book

@@ -3,6 +3,7 @@ use Rattle.std.specs.Prelude.{ℕ, List, [], ◌∷◌, Option, None, option_map
 use Rattle.std.specs.Str.{bytes_eq}
 use Rattle.dye_run.specs.Diff.{DiffWords, diff_words}
 use Rattle.dye_run.specs.Ks.{KsWords, ks_words}
+use Rattle.dye_run.specs.Show.{ShowWords, show_words}
 use Rattle.dye_run.specs.Words.{LitColumn, lit_column_of}
 
 -- a command with its words
@@ -11,6 +12,7 @@ pub data Form : Type 0 where
   xyz : LitColumn → Form
   lab : LitColumn → Form
   diff : DiffWords → Form
+  show : ShowWords → Form
 
 -- the form of the words after the program's name, if they have one
 abbrev pub form_of : List (List ℕ) → Option Form
@@ -20,4 +22,5 @@ form_of (command ∷ words) =
     else (if bytes_eq command (codes "xyz") then option_map xyz (lit_column_of words)
     else (if bytes_eq command (codes "lab") then option_map lab (lit_column_of words)
     else (if bytes_eq command (codes "diff") then option_map diff (diff_words words)
-    else None)))
+    else (if bytes_eq command (codes "show") then option_map show (show_words words)
+    else None))))

@@ -7,10 +7,10 @@ use Rattle.spectral_tables.specs.WeightFile.{weight_table_of}
 use Rattle.spectral_tables.specs.declared.fault.TableFault.{TableFault}
 use Rattle.dye_run.specs.Answers.{Report}
 use Rattle.dye_run.specs.Asking.{Asking, answers, asks}
-use Rattle.dye_run.specs.Outcome.{FileFault, no_column, outcome_of, table, too_long}
+use Rattle.dye_run.specs.Outcome.{Fault, no_column, outcome_of, table, too_long}
 
 infixl 10 ◌>>=◌
-abbrev pub ◌>>=◌ : {A B : Type 0} → Result A FileFault → (A → Result B FileFault) → Result B FileFault
+abbrev pub ◌>>=◌ : {A B : Type 0} → Result A Fault → (A → Result B Fault) → Result B Fault
 (Ok x) >>= f = f x
 (Err fault) >>= f = Err fault
 
@@ -18,27 +18,22 @@ abbrev pub ◌>>=◌ : {A B : Type 0} → Result A FileFault → (A → Result B
 abbrev pub table_limit : ℕ
 table_limit = 1000000
 
--- what a reader made of a file, or why the file is refused
-abbrev pub unless_faulty : {T : Type 0} → List ℕ → Result T TableFault → Result T FileFault
+-- what was made of a file, or why the file is refused
+abbrev pub unless_faulty : {T : Type 0} → List ℕ → Result T TableFault → Result T Fault
 unless_faulty name (Ok value) = Ok value
 unless_faulty name (Err fault) = Err (table name fault)
 
--- the curves of a file, from what came of its read
-unfoldable pub book_from : List ℕ → Option (List ℕ) → Result Book FileFault
-book_from name None = Err (too_long name)
-book_from name (Some bytes) = unless_faulty name (curve_table_of bytes)
+-- what a reader makes of a file, from what came of its read
+unfoldable pub table_from : {T : Type 0} → (List ℕ → Result T TableFault) → List ℕ → Option (List ℕ) → Result T Fault
+table_from read name None = Err (too_long name)
+table_from read name (Some bytes) = unless_faulty name (read bytes)
 
--- the weights of a file, from what came of its read
-unfoldable pub weights_from : List ℕ → Option (List ℕ) → Result WeightTable FileFault
-weights_from name None = Err (too_long name)
-weights_from name (Some bytes) = unless_faulty name (weight_table_of bytes)
-
-abbrev pub unless_missing : {T : Type 0} → List ℕ → List ℕ → Option T → Result T FileFault
+abbrev pub unless_missing : {T : Type 0} → List ℕ → List ℕ → Option T → Result T Fault
 unless_missing name column None = Err (no_column name column)
 unless_missing name column (Some value) = Ok value
 
 -- the curve of a column
-unfoldable pub curve_from : List ℕ → List ℕ → Book → Result (List ℕ) FileFault
+unfoldable pub curve_from : List ℕ → List ℕ → Book → Result (List ℕ) Fault
 curve_from name column book = unless_missing name column (curve_named column book)
 
 -- the curves of one file and the weights of another
@@ -47,18 +42,18 @@ pub record Tables : Type 0 where
   pub light : WeightTable
 
 -- both, from what came of their reads: a fault of the curves before one of the weights
-unfoldable pub tables_from : (curves weights : List ℕ) → (curves_came weights_came : Option (List ℕ)) → Result Tables FileFault
+unfoldable pub tables_from : (curves weights : List ℕ) → (curves_came weights_came : Option (List ℕ)) → Result Tables Fault
 tables_from curves weights curves_came weights_came = do
-  book ← book_from curves curves_came
-  light ← weights_from weights weights_came
+  book ← table_from curve_table_of curves curves_came
+  light ← table_from weight_table_of weights weights_came
   Ok (record { book = book; light = light })
 
 -- a file of curves is due, and judged when it has come
-abbrev pub asks_book : List ℕ → (Book → Result Report FileFault) → Asking
-asks_book curves judged = asks curves table_limit (λ came. answers (outcome_of (book_from curves came >>= judged)))
+abbrev pub asks_book : List ℕ → (Book → Result Report Fault) → Asking
+asks_book curves judged = asks curves table_limit (λ came. answers (outcome_of (table_from curve_table_of curves came >>= judged)))
 
 -- a file of curves and then one of weights are due, and both are judged when they have come
-abbrev pub asks_tables : (curves weights : List ℕ) → (Tables → Result Report FileFault) → Asking
+abbrev pub asks_tables : (curves weights : List ℕ) → (Tables → Result Report Fault) → Asking
 asks_tables curves weights judged =
     asks curves table_limit (λ curves_came. asks weights table_limit (λ weights_came.
     answers (outcome_of (tables_from curves weights curves_came weights_came >>= judged))))

@@ -1,25 +1,39 @@
 -- What the steps of a command come to, beside their definitions.
-use Rattle.std.specs.Prelude.{◌≡◌, ℕ, List, Option, None, option_map, Result, Ok, Err}
-use Rattle.shelf_io.specs.Contents.{Contents}
+use Rattle.std.specs.Prelude.{◌≡◌, ◌≤◌, ℕ, List, Option, Some, None, IfSome, IsTrue, Result, Ok, Err}
 use Rattle.shelf_io.specs.View.{ShelfView}
 use Rattle.dye_run.specs.Answers as spec
-use Rattle.dye_run.specs.Asking.{Answers, Asking}
-use Rattle.dye_run.specs.Due.{Comes, FailsToRead}
+use Rattle.dye_run.specs.Asking.{Answers, Asking, IsDue, ReadsDue}
+use Rattle.dye_run.specs.Due.{FailsToRead}
 use Rattle.dye_run.specs.Endings.{Reaches}
-use Rattle.dye_run.specs.Inputs.{table_limit}
-use Rattle.dye_run.specs.Outcome.{FileFault, outcome_of, refusal_outcome, refused, reported, unreadable}
-use Rattle.dye_run.specs.declared.inputs.Both.{Both}
+use Rattle.dye_run.specs.Outcome.{Fault, Outcome, job, no_column, outcome_of, refusal_outcome, refused, reported, steps, table, too_long, unreadable, usage}
 use Rattle.dye_run.specs.declared.report.Report.{Report}
+use Rattle.dye_run.specs.declared.stop.OwnedRefusal.{OwnedRefusal}
+use Rattle.dye_run.specs.declared.stop.OwnedRefusal.TheVariants as owned
 use Rattle.dye_run.specs.declared.stop.Stop.{Stop}
 use Rattle.dye_run.specs.declared.stop.Stop.TheVariants as stop
 
--- the step refuses a file as its definition does, unless memory ran out
-abbrev pub Refuses : {Y : Type 0} → Stop → Result Y FileFault → Type 0
-Refuses (stop.Refused refusal) step = (fault : FileFault) × (refusal_outcome refusal ≡ refused fault) × (step ≡ Err fault)
-Refuses stop.Memory step = Unit {0}
+-- what a refusal that owns its texts stands for
+abbrev pub owned_outcome : OwnedRefusal → Outcome
+owned_outcome owned.Usage = usage
+owned_outcome (owned.Unreadable name) = unreadable name
+owned_outcome (owned.TooLong name) = refused (too_long name)
+owned_outcome (owned.Table name fault) = refused (table name fault)
+owned_outcome (owned.Job name fault) = refused (job name fault)
+owned_outcome (owned.NoColumn name column) = refused (no_column name column)
+owned_outcome (owned.Steps limit) = refused (steps limit)
+
+-- what the command comes to, unless memory ran out
+abbrev pub stop_outcome : Stop → Option Outcome
+stop_outcome (stop.Refused refusal) = Some (refusal_outcome refusal)
+stop_outcome (stop.Owned refusal) = Some (owned_outcome refusal)
+stop_outcome stop.Memory = None
+
+-- the step refuses its input as its definition does, unless memory ran out
+abbrev pub Refuses : {Y : Type 0} → Stop → Result Y Fault → Type 0
+Refuses why step = IfSome (stop_outcome why) (λ o. (fault : Fault) × (o ≡ refused fault) × (step ≡ Err fault))
 
 -- what a step gives, seen by view, is what its definition gives, unless memory ran out
-abbrev pub Gives : {X Y : Type 0} → (X → Y) → Result X Stop → Result Y FileFault → Type 0
+abbrev pub Gives : {X Y : Type 0} → (X → Y) → Result X Stop → Result Y Fault → Type 0
 Gives view (Ok x) step = step ≡ Ok (view x)
 Gives view (Err why) step = Refuses why step
 
@@ -30,29 +44,35 @@ pub record Matches (report : Report) (defined : spec.Report) : Type 0 where
   pub written : defined.written ≡ None
 
 -- the same, of a step that reports
-abbrev pub Reports : Result Report Stop → Result spec.Report FileFault → Type 0
+abbrev pub Reports : Result Report Stop → Result spec.Report Fault → Type 0
 Reports (Ok report) step = (r : spec.Report) × (step ≡ Ok r) × Matches report r
 Reports (Err why) step = Refuses why step
 
 -- a read of this name failed, or memory ran out
 abbrev pub StopsAt : List ℕ → (before after : ShelfView) → Stop → Type 0
-StopsAt name before after (stop.Refused refusal) = (refusal_outcome refusal ≡ unreadable name) × FailsToRead before after name
-StopsAt name before after stop.Memory = Unit {0}
-
--- what may come of a file of curves and of one of weights after it
-pub record HaveCome (contents : Option Contents) (curves weights : List ℕ) (both : Both) : Type 0 where
-  pub first : Comes contents curves table_limit (option_map (λ b. b.items) both.curves)
-  pub second : Comes contents weights table_limit (option_map (λ b. b.items) both.weights)
+StopsAt name before after why = IfSome (stop_outcome why) (λ o. (o ≡ unreadable name) × FailsToRead before after name)
 
 -- the command comes to the refusal, or memory ran out
 abbrev pub Stops : Asking → (before after : ShelfView) → Stop → Type 0
-Stops asking before after (stop.Refused refusal) = Reaches asking before after (refusal_outcome refusal)
-Stops asking before after stop.Memory = Unit {0}
+Stops asking before after why = IfSome (stop_outcome why) (λ o. Reaches asking before after o)
+
+-- the command stopped, having read due files alone
+pub record StopsHaving (asking : Asking) (before after : ShelfView) (why : Stop) : Type 0 where
+  pub stops : Stops asking before after why
+  pub reads : ReadsDue asking before after
+
+-- all that was due first has come: what the command goes on with from here is what it asked for from before on
+pub record GoesOn (asking rest : Asking) (before now : ShelfView) : Type 0 where
+  pub answers : (o : Outcome) → Answers now.contents rest o → Answers before.contents asking o
+  pub due : (name : List ℕ) → IsDue now.contents rest name → IsDue before.contents asking name
+  pub reads : (after : ShelfView) → ReadsDue rest now after → ReadsDue asking before after
+  pub grows : (name : List ℕ) → before.read_faults name ≤ now.read_faults name
+  pub kept : (name : List ℕ) → IsTrue (before.reads_promised name) → IsTrue (now.reads_promised name)
 
 -- the input is what came of the due reads, so that what is made of it is the outcome; or the command stopped
-abbrev pub IsInput : {X Y : Type 0} → Asking → (Y → Result spec.Report FileFault) → (X → Y) → (before after : ShelfView) → Result X Stop → Type 0
-IsInput asking judged view before after (Ok x) = Answers before.contents asking (outcome_of (judged (view x)))
-IsInput asking judged view before after (Err why) = Stops asking before after why
+abbrev pub IsInput : {X : Type 0} → Asking → (X → Result spec.Report Fault) → (before after : ShelfView) → Result X Stop → Type 0
+IsInput asking judged before after (Ok x) = Answers before.contents asking (outcome_of (judged x))
+IsInput asking judged before after (Err why) = Stops asking before after why
 
 -- the report is that of the command's outcome, or the command stopped
 abbrev pub IsJudged : Asking → (before after : ShelfView) → Result Report Stop → Type 0

@@ -4,7 +4,7 @@ use Rattle.ks_curves.specs.KubelkaMunk.{ks_at}
 use Rattle.spectral_tables.specs.CurveBook.{Book}
 use Rattle.dye_run.specs.Answers.{Evaluation, Report, evaluation, plain_report}
 use Rattle.dye_run.specs.Inputs.{◌>>=◌, curve_from}
-use Rattle.dye_run.specs.Outcome.{FileFault}
+use Rattle.dye_run.specs.Outcome.{Fault}
 use Rattle.dye_run.specs.Words.{is_file_word}
 
 pub record KsWords : Type 0 where
@@ -23,7 +23,7 @@ ks_evaluations wavelength (millionths ∷ curve) =
     evaluation (decimal wavelength) (λ n. ks_at n millionths) ∷ ks_evaluations (wavelength + 10) curve
 
 -- the report, of the curves of the file
-unfoldable pub ks_report : KsWords → Book → Result Report FileFault
+unfoldable pub ks_report : KsWords → Book → Result Report Fault
 ks_report words book = do
   curve ← curve_from words.curves words.column book
   Ok (plain_report (ks_evaluations 400 curve))

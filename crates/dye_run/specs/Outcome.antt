@@ -1,7 +1,9 @@
 -- What a call comes to, with its status and its text: each a table.
 use Rattle.std.specs.Prelude.{ℕ, List, Option, None, Result, Ok, Err}
+use Rattle.job_file.specs.declared.fault.JobFault.{JobFault}
+use Rattle.price_grid.specs.declared.limit.LimitNo.{LimitNo}
 use Rattle.spectral_tables.specs.declared.fault.TableFault.{TableFault}
-use Rattle.shade_report.specs.Refusals.{fault_text, no_column_text, refused_text, too_long_text, unreadable_text, usage_text}
+use Rattle.shade_report.specs.Refusals.{fault_text, job_fault_text, no_column_text, refused_text, steps_text, too_long_text, unreadable_text, usage_text}
 use Rattle.shade_report.specs.declared.refusal.Refusal.{Refusal}
 use Rattle.shade_report.specs.declared.refusal.Refusal.TheVariants as why
 use Rattle.dye_run.specs.Answers.{Report}
@@ -9,17 +11,20 @@ use Rattle.dye_run.specs.declared.statuses.Conclusion.{Conclusion}
 use Rattle.dye_run.specs.declared.statuses.Conclusion.TheVariants.{NoVerdict, Judged}
 use Rattle.metamerism.specs.declared.outcomes.Verdict.TheVariants.{Fail, Pass, Undecided}
 
--- why a file that was read is refused: it has more bytes than its limit, a table breaks a rule, or a column is missing
-pub data FileFault : Type 0 where
-  too_long : (name : List ℕ) → FileFault
-  table : (name : List ℕ) → TableFault → FileFault
-  no_column : (name column : List ℕ) → FileFault
+-- why there is no report over files that were read: one has more bytes than its limit, a table or a job breaks a rule, or a
+-- column is missing; or the steps are no recipe of the grid, or one that breaks a limit
+pub data Fault : Type 0 where
+  too_long : (name : List ℕ) → Fault
+  table : (name : List ℕ) → TableFault → Fault
+  job : (name : List ℕ) → JobFault → Fault
+  no_column : (name column : List ℕ) → Fault
+  steps : Option LimitNo → Fault
 
--- the words have no listed form; a due file could not be read; a file is refused; or a report
+-- the words have no listed form; a due file could not be read; the files or the steps are refused; or a report
 pub data Outcome : Type 0 where
   usage : Outcome
   unreadable : (name : List ℕ) → Outcome
-  refused : FileFault → Outcome
+  refused : Fault → Outcome
   reported : Report → Outcome
 
 -- the status of a report
@@ -29,11 +34,19 @@ conclusion_status (Judged Pass) = 0
 conclusion_status (Judged (Fail number)) = 8
 conclusion_status (Judged Undecided) = 9
 
+-- the status of a fault: that of the steps has its own
+abbrev pub fault_status : Fault → ℕ
+fault_status (too_long name) = 3
+fault_status (table name fault) = 3
+fault_status (job name fault) = 3
+fault_status (no_column name column) = 3
+fault_status (steps limit) = 11
+
 -- the status of each outcome
 abbrev pub status_of : Outcome → ℕ
 status_of usage = 1
 status_of (unreadable name) = 2
-status_of (refused fault) = 3
+status_of (refused fault) = fault_status fault
 status_of (reported report) = conclusion_status report.conclusion
 
 -- the text of each outcome
@@ -42,7 +55,9 @@ text_of usage = usage_text
 text_of (unreadable name) = unreadable_text name
 text_of (refused (too_long name)) = refused_text name too_long_text
 text_of (refused (table name fault)) = refused_text name (fault_text fault)
+text_of (refused (job name fault)) = refused_text name (job_fault_text fault)
 text_of (refused (no_column name column)) = refused_text name (no_column_text column)
+text_of (refused (steps limit)) = steps_text limit
 text_of (reported report) = report.text
 
 -- the file that each outcome writes
@@ -52,8 +67,8 @@ written_of (unreadable name) = None
 written_of (refused fault) = None
 written_of (reported report) = report.written
 
--- a command's report, or the refusal of a file
-abbrev pub outcome_of : Result Report FileFault → Outcome
+-- a command's report, or its refusal
+abbrev pub outcome_of : Result Report Fault → Outcome
 outcome_of (Ok report) = reported report
 outcome_of (Err fault) = refused fault
 
@@ -63,4 +78,6 @@ refusal_outcome why.Usage = usage
 refusal_outcome (why.Unreadable name) = unreadable name.now
 refusal_outcome (why.TooLong name) = refused (too_long name.now)
 refusal_outcome (why.Table name fault) = refused (table name.now fault)
+refusal_outcome (why.Job name fault) = refused (job name.now fault)
 refusal_outcome (why.NoColumn name column) = refused (no_column name.now column.now)
+refusal_outcome (why.Steps limit) = refused (steps limit)

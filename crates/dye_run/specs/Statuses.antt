@@ -8,7 +8,7 @@ use Rattle.dye_run.specs.Asking.{Answers, IsDue, result_of}
 use Rattle.dye_run.specs.Commands.{asking_for}
 use Rattle.dye_run.specs.Endings.{IsUnreadable, Leaves, LeavesPrefix, Reaches, World, out_of_memory_status}
 use Rattle.dye_run.specs.Forms.{Form}
-use Rattle.dye_run.specs.Outcome.{FileFault, Outcome, conclusion_status, refused, reported, status_of, text_of, written_of}
+use Rattle.dye_run.specs.Outcome.{Fault, Outcome, conclusion_status, fault_status, refused, reported, status_of, text_of, written_of}
 
 -- what a status may tell of
 pub data Kind : Type 0 where
@@ -20,13 +20,13 @@ pub data Kind : Type 0 where
   out_of_memory : Kind
   nothing : Kind
 
--- 0, 8 and 9 are of a report, and the others each of one kind
+-- 0, 8 and 9 are of a report, 3 and 11 of a refusal, and the others each of one kind
 abbrev pub kind_of : ℕ → Kind
 kind_of status =
     if (status == 0) || (status == 8) || (status == 9) then report
     else (if status == 1 then usage
     else (if status == 2 then unreadable
-    else (if status == 3 then refusal
+    else (if (status == 3) || (status == 11) then refusal
     else (if status == 4 then not_written
     else (if status == 10 then out_of_memory
     else nothing)))))
@@ -51,9 +51,10 @@ module _ (form : Option Form) (before after : World) where
     pub fault : IsUnreadable (asking_for form) before.shelf after.shelf name
     pub leaves : Leaves before after (unreadable_text name) None
 
-  -- all due files came, and this is their first fault
-  pub record IsRefused : Type 0 where
-    pub fault : FileFault
+  -- all due files came, and this is the first fault
+  pub record IsRefused (result : ℕ) : Type 0 where
+    pub fault : Fault
+    pub status : fault_status fault ≡ result
     pub answers : Answers before.shelf.contents (asking_for form) (refused fault)
     pub leaves : Leaves before after (text_of (refused fault)) None
 
@@ -73,7 +74,7 @@ module _ (form : Option Form) (before after : World) where
   Tells report status = IsReport status
   Tells usage status = IsUsage
   Tells unreadable status = NamesUnreadable
-  Tells refusal status = IsRefused
+  Tells refusal status = IsRefused status
   Tells not_written status = IsNotWritten
   Tells out_of_memory status = IsOutOfMemory
   Tells nothing status = ⊥

@@ -3,14 +3,19 @@ use Rattle.dye_run.specs.declared.command.Command.{Command}
 use Rattle.dye_run.specs.declared.command.Command.TheVariants as code
 use Rattle.dye_run.specs.declared.commands.diff.Diff.{Diff}
 use Rattle.dye_run.specs.declared.commands.ks.Ks.{Ks}
+use Rattle.dye_run.specs.declared.commands.show.Show.{Show}
+use Rattle.dye_run.specs.declared.jobs.JobTables.{JobTables}
 use Rattle.dye_run.specs.declared.tables.Tables.{Tables}
 use Rattle.dye_run.specs.declared.tolerance.Tolerance.{Tolerance}
 use Rattle.dye_run.specs.declared.words.LitColumn.{LitColumn}
-use Rattle.std.specs.Prelude.{ℕ, Option, option_map}
+use Rattle.std.specs.Global.{Vec}
+use Rattle.std.specs.Prelude.{ℕ, List, Option, option_map}
 use Rattle.dye_run.specs.Diff.{DiffWords}
-use Rattle.dye_run.specs.Forms.{Form, diff, ks, lab, xyz}
+use Rattle.dye_run.specs.Forms.{Form, diff, ks, lab, show, xyz}
 use Rattle.dye_run.specs.Inputs as inputs
+use Rattle.dye_run.specs.Jobs as jobs
 use Rattle.dye_run.specs.Ks.{KsWords}
+use Rattle.dye_run.specs.Show.{ShowWords}
 use Rattle.dye_run.specs.Words as words
 
 abbrev pub ks_view : Ks → KsWords
@@ -33,12 +38,24 @@ diff_view c = record {
   tolerance = tolerance_view c.tolerance;
 }
 
+abbrev pub show_view : Show → ShowWords
+show_view c = record { job = c.job.now; steps = c.steps.now }
+
 abbrev pub form_view : Command → Form
 form_view (code.Ks c) = ks (ks_view c)
 form_view (code.Xyz c) = xyz (lit_view c)
 form_view (code.Lab c) = lab (lit_view c)
 form_view (code.Diff c) = diff (diff_view c)
+form_view (code.Show c) = show (show_view c)
 
 -- the curves and the weights that were read
 abbrev pub tables_view : Tables → inputs.Tables
 tables_view tables = record { book = tables.book; light = tables.light }
+
+-- the bytes that came of a read, or None where there were too many
+abbrev pub came_view : Option (Vec ℕ) → Option (List ℕ)
+came_view came = option_map (λ bytes. bytes.items) came
+
+-- the curves and the weights of a job that were read
+abbrev pub job_tables_view : JobTables → jobs.JobTables
+job_tables_view tables = record { book = tables.book; weights = tables.weights.items }

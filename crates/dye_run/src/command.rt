@@ -7,7 +7,13 @@ ghost use Rattle.dye_run.specs.Forms.{form_of};
 ghost use Rattle.dye_run.specs.Judging.{IsJudged};
 ghost use Rattle.dye_run.specs.Views.{form_view};
 
-use crate::commands::{diff, ks, lab, xyz};
+use crate::commands::diff::Diff;
+use crate::commands::ks::Ks;
+use crate::commands::lab::Lab;
+use crate::commands::show::Show;
+use crate::commands::xyz::Xyz;
+use crate::coordinates::ColumnReport;
+use crate::inquiry::inquire;
 use crate::report::Report;
 use crate::stop::Stop;
 use crate::words::LitColumn;
@@ -17,10 +23,11 @@ use std::alloc::Global;
 /// A command with its words.
 #[derive(Clone, Copy)]
 pub(crate) enum Command<'a> {
-    Ks(ks::Ks<'a>),
+    Ks(Ks<'a>),
     Xyz(LitColumn<'a>),
     Lab(LitColumn<'a>),
-    Diff(diff::Diff<'a>),
+    Diff(Diff<'a>),
+    Show(Show<'a>),
 }
 
 /// The command that the words form, if they have one of the listed forms.
@@ -31,10 +38,11 @@ pub(crate) fn command_of(words: &[String]) -> Option<Command<'_>>
         return None;
     };
     match name.as_str() {
-        "ks" => ks::Ks::of_words(rest).map(Command::Ks),
+        "ks" => Ks::of_words(rest).map(Command::Ks),
         "xyz" => LitColumn::of_words(rest).map(Command::Xyz),
         "lab" => LitColumn::of_words(rest).map(Command::Lab),
-        "diff" => diff::Diff::of_words(rest).map(Command::Diff),
+        "diff" => Diff::of_words(rest).map(Command::Diff),
+        "show" => Show::of_words(rest).map(Command::Show),
         _ => None,
     }
 }
@@ -51,9 +59,10 @@ pub(crate) fn judge<'a, H: Shelf>(
         (H.view shelf.old) (H.view shelf.new) }
 {
     match command {
-        Command::Ks(words) => ks::judge(alloc, shelf, words),
-        Command::Xyz(words) => xyz::judge(alloc, shelf, words),
-        Command::Lab(words) => lab::judge(alloc, shelf, words),
-        Command::Diff(words) => diff::judge(alloc, shelf, words),
+        Command::Ks(words) => inquire(alloc, shelf, words),
+        Command::Xyz(words) => inquire(alloc, shelf, ColumnReport(words, Xyz)),
+        Command::Lab(words) => inquire(alloc, shelf, ColumnReport(words, Lab)),
+        Command::Diff(words) => inquire(alloc, shelf, words),
+        Command::Show(words) => inquire(alloc, shelf, words),
     }
 }

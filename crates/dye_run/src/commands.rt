@@ -4,4 +4,5 @@
 pub(crate) mod diff;
 pub(crate) mod ks;
 pub(crate) mod lab;
+pub(crate) mod show;
 pub(crate) mod xyz;

@@ -1,6 +1,6 @@
 //! The due files of a command, by their shape.
 
-ghost use Rattle.std.specs.Prelude.{◌≡◌, ◌≤◌, ◌+◌, ℕ, List, length, option_map, IfErr, IfOk, Result};
+ghost use Rattle.std.specs.Prelude.{◌≡◌, ◌≤◌, ◌+◌, length, option_map, IfErr, IfOk, Result};
 ghost use Rattle.std.specs.Option.{ForSome};
 ghost use Rattle.shelf_io.specs.Changes.{HandsOut, OnlyReads};
 ghost use Rattle.spectral_tables.specs.CurveBook.{Book};
@@ -9,19 +9,19 @@ ghost use Rattle.dye_run.specs.Asking.{ReadsDue};
 ghost use Rattle.dye_run.specs.Due.{Comes};
 ghost use Rattle.dye_run.specs.Inputs as spec;
 ghost use Rattle.dye_run.specs.Inputs.{asks_book, asks_tables};
-ghost use Rattle.dye_run.specs.Judging.{Gives, HaveCome, IsInput, StopsAt};
-ghost use Rattle.dye_run.specs.Outcome.{FileFault};
+ghost use Rattle.dye_run.specs.Judging.{Gives, IsInput, StopsAt};
+ghost use Rattle.dye_run.specs.Outcome.{Fault};
 ghost use Rattle.dye_run.specs.Views.{tables_view};
 
 use crate::stop::Stop;
-use crate::tables::{TABLE_LIMIT, Tables, book_from, weights_from};
+use crate::tables::{TABLE_LIMIT, Tables, table_from};
 use shade_report::Refusal;
 use shelf_io::{Shelf, TakeFault, take_file};
 use spectral_tables::CurveBook;
 use std::alloc::Global;
 
-// Reads a due file: its bytes, or `None` where it has more than `limit`.
-fn due<'a, H: Shelf>(
+/// Reads a due file: its bytes, or `None` where it has more than `limit`.
+pub(crate) fn due<'a, H: Shelf>(
     alloc: Global,
     shelf: &mut H,
     name: &'a str,
@@ -47,14 +47,14 @@ pub(crate) fn read_book<'a, H: Shelf>(
     shelf: &mut H,
     curves: &'a str,
 ) -> Result<CurveBook, Stop<'a>>
-    ensures input { (judged : Book → Result Report FileFault) →
-        IsInput (asks_book curves.now judged) judged (λ b. b)
+    ensures input { (judged : Book → Result Report Fault) →
+        IsInput (asks_book curves.now judged) judged
         (H.view shelf.old) (H.view shelf.new) result }
-    ensures reads { (judged : Book → Result Report FileFault) →
+    ensures reads { (judged : Book → Result Report Fault) →
         ReadsDue (asks_book curves.now judged) (H.view shelf.old) (H.view shelf.new) }
 {
     let came = due(alloc, shelf, curves, TABLE_LIMIT)?;
-    book_from(alloc, curves, came.as_deref())
+    table_from(alloc, curves, came.as_deref())
 }
 
 // What came of a file of curves and of one of weights.
@@ -77,8 +77,8 @@ fn tables_from<'a>(
     ensures { Gives tables_view result (spec.tables_from curves.now weights.now
         (option_map (λ b. b.items) came.now.curves) (option_map (λ b. b.items) came.now.weights)) }
 {
-    let book = book_from(alloc, curves, came.curves.as_deref())?;
-    let light = weights_from(alloc, weights, came.weights.as_deref())?;
+    let book = table_from(alloc, curves, came.curves.as_deref())?;
+    let light = table_from(alloc, weights, came.weights.as_deref())?;
     Ok(Tables { book, light })
 }
 
@@ -89,10 +89,10 @@ pub(crate) fn read_tables<'a, H: Shelf>(
     curves: &'a str,
     weights: &'a str,
 ) -> Result<Tables, Stop<'a>>
-    ensures input { (judged : spec.Tables → Result Report FileFault) →
-        IsInput (asks_tables curves.now weights.now judged) judged tables_view
+    ensures input { (judged : spec.Tables → Result Report Fault) →
+        IsInput (asks_tables curves.now weights.now judged) (λ t. judged (tables_view t))
         (H.view shelf.old) (H.view shelf.new) result }
-    ensures reads { (judged : spec.Tables → Result Report FileFault) →
+    ensures reads { (judged : spec.Tables → Result Report Fault) →
         ReadsDue (asks_tables curves.now weights.now judged) (H.view shelf.old) (H.view shelf.new) }
 {
     let first = due(alloc, shelf, curves, TABLE_LIMIT)?;

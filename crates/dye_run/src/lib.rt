@@ -5,7 +5,10 @@
 mod colour;
 mod command;
 mod commands;
+mod coordinates;
 mod inputs;
+mod inquiry;
+mod jobs;
 mod lines;
 mod report;
 mod statuses;
@@ -16,6 +19,3 @@ mod top;
 mod words;
 
 pub use top::run;
-
-#[cfg(test)]
-mod tests;

@@ -39,6 +39,7 @@ pub(crate) fn refusal_status(refusal: &Refusal) -> u8
     match *refusal {
         Refusal::Usage => 1,
         Refusal::Unreadable(_) => 2,
-        Refusal::TooLong(_) | Refusal::Table(..) | Refusal::NoColumn(..) => 3,
+        Refusal::TooLong(_) | Refusal::Table(..) | Refusal::Job(..) | Refusal::NoColumn(..) => 3,
+        Refusal::Steps(_) => 11,
     }
 }

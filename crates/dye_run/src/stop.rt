@@ -1,15 +1,104 @@
-ghost use Rattle.std.specs.Prelude.{◌≡◌};
+//! Why a command has no report.
 
+ghost use Rattle.std.specs.Prelude.{◌≡◌, ◌⊎◌, IfOk, None, option_map};
+ghost use Rattle.dye_run.specs.Judging.{owned_outcome, stop_outcome};
+ghost use Rattle.dye_run.specs.Outcome.{refusal_outcome};
+
+use job_file::{JobFault, Text};
+use price_grid::LimitNo;
 use shade_report::Refusal;
-use std::alloc::AllocError;
+use spectral_tables::TableFault;
+use std::alloc::{AllocError, AllocFailed, Global};
+
+/// A refusal that owns its texts, for the names that a job gives.
+#[derive(Drop)]
+pub(crate) enum OwnedRefusal {
+    Usage,
+    Unreadable(Text),
+    TooLong(Text),
+    Table(Text, TableFault),
+    Job(Text, JobFault),
+    NoColumn(Text, Text),
+    Steps(Option<LimitNo>),
+}
+
+fn copy_of(alloc: Global, text: &str) -> Result<Text, AllocError>
+    ensures { IfOk result (λ copy. copy ≡ text.now) }
+{
+    Ok(Text::of(String::from_str(alloc, text)?))
+}
+
+impl OwnedRefusal {
+    /// A copy of a refusal.
+    fn of(alloc: Global, refusal: &Refusal) -> Result<OwnedRefusal, AllocError>
+        ensures { IfOk result (λ owned. owned_outcome owned ≡ refusal_outcome refusal.now) }
+    {
+        Ok(match *refusal {
+            Refusal::Usage => OwnedRefusal::Usage,
+            Refusal::Unreadable(name) => OwnedRefusal::Unreadable(copy_of(alloc, name)?),
+            Refusal::TooLong(name) => OwnedRefusal::TooLong(copy_of(alloc, name)?),
+            Refusal::Table(name, fault) => OwnedRefusal::Table(copy_of(alloc, name)?, fault),
+            Refusal::Job(name, fault) => OwnedRefusal::Job(copy_of(alloc, name)?, fault),
+            Refusal::NoColumn(name, column) => {
+                OwnedRefusal::NoColumn(copy_of(alloc, name)?, copy_of(alloc, column)?)
+            }
+            Refusal::Steps(limit) => OwnedRefusal::Steps(limit),
+        })
+    }
+
+    /// The refusal.
+    fn refusal(&self) -> Refusal<'_>
+        ensures { refusal_outcome result ≡ owned_outcome self.now }
+    {
+        match self {
+            OwnedRefusal::Usage => Refusal::Usage,
+            OwnedRefusal::Unreadable(name) => Refusal::Unreadable(name.as_str()),
+            OwnedRefusal::TooLong(name) => Refusal::TooLong(name.as_str()),
+            OwnedRefusal::Table(name, fault) => Refusal::Table(name.as_str(), *fault),
+            OwnedRefusal::Job(name, fault) => Refusal::Job(name.as_str(), *fault),
+            OwnedRefusal::NoColumn(name, column) => {
+                Refusal::NoColumn(name.as_str(), column.as_str())
+            }
+            OwnedRefusal::Steps(limit) => Refusal::Steps(*limit),
+        }
+    }
+}
 
 /// Why a command has no report.
 #[derive(Drop)]
 pub(crate) enum Stop<'a> {
-    /// The words or a file are refused.
+    /// The words, or a file that they name, are refused.
     Refused(Refusal<'a>),
+    /// A file that a job names is refused.
+    Owned(OwnedRefusal),
     /// Memory ran out.
     Memory,
+}
+
+impl Stop<'_> {
+    /// The refusal, unless memory ran out.
+    pub(crate) fn refusal(&self) -> Option<Refusal<'_>>
+        ensures { option_map refusal_outcome result ≡ stop_outcome self.now }
+    {
+        match self {
+            Stop::Refused(refusal) => Some(*refusal),
+            Stop::Owned(refusal) => Some(refusal.refusal()),
+            Stop::Memory => None,
+        }
+    }
+
+    /// The same, where names do not outlive the job that they stand in.
+    pub(crate) fn owned<'a>(self, alloc: Global) -> Stop<'a>
+        ensures { (stop_outcome result ≡ stop_outcome self.entry) ⊎ (stop_outcome result ≡ None) }
+    {
+        match self.refusal() {
+            Some(refusal) => match OwnedRefusal::of(alloc, &refusal) {
+                Ok(owned) => Stop::Owned(owned),
+                Err(AllocError) => Stop::Memory,
+            },
+            None => Stop::Memory,
+        }
+    }
 }
 
 impl From<AllocError> for Stop<'_> {
@@ -18,6 +107,16 @@ impl From<AllocError> for Stop<'_> {
     ghost from_gives = { λ _ e. e ≡ Memory };
 
     fn from(_e: AllocError) -> Self {
+        Stop::Memory
+    }
+}
+
+impl<T: Drop> From<AllocFailed<T>> for Stop<'_> {
+    ghost use Rattle.dye_run.specs.declared.stop.Stop.TheVariants.{Memory};
+
+    ghost from_gives = { λ _ e. e ≡ Memory };
+
+    fn from(_e: AllocFailed<T>) -> Self {
         Stop::Memory
     }
 }

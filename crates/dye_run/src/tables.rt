@@ -1,6 +1,10 @@
-ghost use Rattle.std.specs.Prelude.{◌≡◌, ◌≤◌, length, option_map};
+ghost use Rattle.std.specs.Prelude.{◌≤◌, ℕ, length, List, option_map, Result};
 ghost use Rattle.std.specs.Option.{ForSome};
-ghost use Rattle.dye_run.specs.Inputs.{book_from as spec_book_from, curve_from as spec_curve_from, weights_from as spec_weights_from};
+ghost use Rattle.spectral_tables.specs.CurveFile.{curve_table_of};
+ghost use Rattle.spectral_tables.specs.Faults.{Gives as GivesTable};
+ghost use Rattle.spectral_tables.specs.WeightFile.{weight_table_of};
+ghost use Rattle.spectral_tables.specs.declared.fault.TableFault.{TableFault};
+ghost use Rattle.dye_run.specs.Inputs.{curve_from, table_from};
 ghost use Rattle.dye_run.specs.Judging.{Gives};
 
 use crate::stop::Stop;
@@ -18,43 +22,49 @@ pub(crate) struct Tables {
     pub light: Weights,
 }
 
-/// The curves of a file, of which these bytes came, or `None` where it is too long.
-#[tactic(auto, unfolding(crate::specs::Inputs::book_from))]
-pub(crate) fn book_from<'a>(
-    alloc: Global,
-    name: &'a str,
-    came: Option<&[u8]>,
-) -> Result<CurveBook, Stop<'a>>
-    requires { ForSome came (λ bytes. length bytes.now ≤ 1000000) }
-    ensures { Gives (λ b. b) result
-        (spec_book_from name.now (option_map (λ b. b.now) came.entry)) }
-{
-    let Some(bytes) = came else {
-        return Err(Stop::Refused(Refusal::TooLong(name)));
-    };
-    match read_curves(alloc, bytes) {
-        Ok(book) => Ok(book),
-        Err(TableError::Fault(fault)) => Err(Stop::Refused(Refusal::Table(name, fault))),
-        Err(TableError::Memory) => Err(Stop::Memory),
+/// A table that is read from the bytes of one file.
+pub(crate) trait Table: Drop {
+    // what the bytes have
+    ghost table_of: { List ℕ → Result Self TableFault };
+
+    /// Reads it.
+    fn read(alloc: Global, bytes: &[u8]) -> Result<Self, TableError>
+        requires { length bytes.now ≤ 1000000 }
+        ensures { GivesTable (λ t. t) result (table_of bytes.now) };
+}
+
+impl Table for CurveBook {
+    ghost table_of = { curve_table_of };
+
+    fn read(alloc: Global, bytes: &[u8]) -> Result<Self, TableError> {
+        read_curves(alloc, bytes)
     }
 }
 
-/// The weights of a file, of which these bytes came, or `None` where it is too long.
-#[tactic(auto, unfolding(crate::specs::Inputs::weights_from))]
-pub(crate) fn weights_from<'a>(
+impl Table for Weights {
+    ghost table_of = { weight_table_of };
+
+    fn read(alloc: Global, bytes: &[u8]) -> Result<Self, TableError> {
+        read_weights(alloc, bytes)
+    }
+}
+
+/// The table of a file, of which these bytes came, or `None` where it is too long.
+#[tactic(auto, unfolding(crate::specs::Inputs::table_from))]
+pub(crate) fn table_from<'a, T: Table>(
     alloc: Global,
     name: &'a str,
     came: Option<&[u8]>,
-) -> Result<Weights, Stop<'a>>
+) -> Result<T, Stop<'a>>
     requires { ForSome came (λ bytes. length bytes.now ≤ 1000000) }
-    ensures { Gives (λ w. w) result
-        (spec_weights_from name.now (option_map (λ b. b.now) came.entry)) }
+    ensures { Gives (λ t. t) result
+        (table_from T.table_of name.now (option_map (λ b. b.now) came.entry)) }
 {
     let Some(bytes) = came else {
         return Err(Stop::Refused(Refusal::TooLong(name)));
     };
-    match read_weights(alloc, bytes) {
-        Ok(weights) => Ok(weights),
+    match T::read(alloc, bytes) {
+        Ok(table) => Ok(table),
         Err(TableError::Fault(fault)) => Err(Stop::Refused(Refusal::Table(name, fault))),
         Err(TableError::Memory) => Err(Stop::Memory),
     }
@@ -67,7 +77,7 @@ pub(crate) fn curve_from<'a, 'b>(
     column: &'a str,
     book: &'b CurveBook,
 ) -> Result<&'b Curve, Stop<'a>>
-    ensures { Gives (λ c. c.now) result (spec_curve_from name.now column.now book.now) }
+    ensures { Gives (λ c. c.now) result (curve_from name.now column.now book.now) }
 {
     match book.find(column) {
         Some(curve) => Ok(curve),

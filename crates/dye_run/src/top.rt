@@ -55,11 +55,13 @@ fn speak<H: Shelf, O: Sink>(alloc: Global, words: &[String], shelf: &mut H, out:
             let put = out.put(report.text.as_slice());
             status_after(put, conclusion_status(report.conclusion))
         }
-        Err(Stop::Refused(refusal)) => {
-            let put = put_refusal(out, &refusal);
-            status_after(put, refusal_status(&refusal))
-        }
-        Err(Stop::Memory) => OUT_OF_MEMORY,
+        Err(stop) => match stop.refusal() {
+            Some(refusal) => {
+                let put = put_refusal(out, &refusal);
+                status_after(put, refusal_status(&refusal))
+            }
+            None => OUT_OF_MEMORY,
+        },
     }
 }
 

@@ -1,16 +1,22 @@
 -- The texts of refusals, one line each but for the usage text.
-use Rattle.std.specs.Prelude.{ℕ, List, [], ◌∷◌, ◌++◌, codes, decimal}
+use Rattle.std.specs.Prelude.{ℕ, List, [], ◌∷◌, ◌++◌, codes, decimal, Option, Some, None}
 use Rattle.spectral_tables.specs.declared.fault.TableFault.{TableFault}
 use Rattle.spectral_tables.specs.declared.fault.TableRule.{TableRule}
 use Rattle.spectral_tables.specs.declared.fault.TableRule.TheVariants as rule
+use Rattle.price_grid.specs.declared.limit.LimitNo.{LimitNo}
+use Rattle.job_file.specs.declared.fault.JobFault.{JobFault}
+use Rattle.job_file.specs.declared.fault.JobRule.{JobRule}
+use Rattle.job_file.specs.declared.fault.JobRule.TheVariants as job
+use Rattle.job_file.specs.declared.fault.Part.{Part}
+use Rattle.job_file.specs.declared.fault.Part.TheVariants as part
 use Rattle.shade_report.specs.declared.refusal.Refusal.{Refusal}
-use Rattle.shade_report.specs.declared.refusal.Refusal.TheVariants.{NoColumn, Table, TooLong, Unreadable, Usage}
+use Rattle.shade_report.specs.declared.refusal.Refusal.TheVariants.{Job, NoColumn, Steps, Table, TooLong, Unreadable, Usage}
 
 -- the forms that a command line may have
 abbrev pub usage_text : List ℕ
 usage_text =
     codes "usage: dye ks CURVES COLUMN\n" ++ codes "       dye xyz CURVES COLUMN WEIGHTS\n" ++ codes "       dye lab CURVES COLUMN WEIGHTS\n"
-    ++ codes "       dye diff CURVES STANDARD SAMPLE WEIGHTS L10 C10 [TOL]\n"
+    ++ codes "       dye diff CURVES STANDARD SAMPLE WEIGHTS L10 C10 [TOL]\n" ++ codes "       dye show JOB STEPS\n"
 
 -- a file could not be read
 abbrev pub unreadable_text : List ℕ → List ℕ
@@ -39,9 +45,42 @@ rule_name rule.Unbalanced = codes "Unbalanced"
 abbrev pub fault_text : TableFault → List ℕ
 fault_text f = codes "row " ++ decimal f.row ++ codes " column " ++ decimal f.column ++ 32 ∷ rule_name f.rule
 
+abbrev pub part_name : Part → List ℕ
+part_name part.Job = codes "job"
+part_name part.Light = codes "light"
+part_name part.Dye = codes "dye"
+part_name part.Dyeing = codes "dyeing"
+part_name part.Pair = codes "pair"
+part_name part.Batch = codes "batch"
+
+abbrev pub job_rule_name : JobRule → List ℕ
+job_rule_name job.NotToml = codes "NotToml"
+job_rule_name job.NotVersion1 = codes "NotVersion1"
+job_rule_name job.UnknownKey = codes "UnknownKey"
+job_rule_name job.MissingKey = codes "MissingKey"
+job_rule_name job.WrongKind = codes "WrongKind"
+job_rule_name job.OutOfRange = codes "OutOfRange"
+job_rule_name job.BadCount = codes "BadCount"
+job_rule_name job.DoubleDye = codes "DoubleDye"
+job_rule_name job.UnknownDye = codes "UnknownDye"
+job_rule_name job.SamePair = codes "SamePair"
+job_rule_name job.BatchLength = codes "BatchLength"
+job_rule_name job.TooWide = codes "TooWide"
+job_rule_name job.UnknownColumn = codes "UnknownColumn"
+job_rule_name job.TooStrong = codes "TooStrong"
+
+-- the part of a job, the numbers of its item and of the item's dyeing, and the rule
+abbrev pub job_fault_text : JobFault → List ℕ
+job_fault_text f = part_name f.part ++ 32 ∷ decimal f.item ++ 32 ∷ decimal f.sub ++ 32 ∷ job_rule_name f.rule
+
 -- the file has no such column
 abbrev pub no_column_text : List ℕ → List ℕ
 no_column_text column = codes "no column " ++ column
+
+-- the word is no recipe of the grid, or one that breaks the limit of a number
+abbrev pub steps_text : Option LimitNo → List ℕ
+steps_text None = codes "steps refused\n"
+steps_text (Some limit) = codes "steps refused limit " ++ decimal limit.0 ++ 10 ∷ []
 
 -- the text of each refusal
 abbrev pub refusal_text : Refusal → List ℕ
@@ -49,4 +88,6 @@ refusal_text Usage = usage_text
 refusal_text (Unreadable name) = unreadable_text name.now
 refusal_text (TooLong name) = refused_text name.now too_long_text
 refusal_text (Table name fault) = refused_text name.now (fault_text fault)
+refusal_text (Job name fault) = refused_text name.now (job_fault_text fault)
 refusal_text (NoColumn name column) = refused_text name.now (no_column_text column.now)
+refusal_text (Steps limit) = steps_text limit

@@ -1,13 +1,14 @@
-//! What the program prints of a command that has no report: the text of each refusal, as a function
-//! of the refusal, and the call that puts it into a sink.
+//! What the program prints: the text of a recipe, the text of each refusal as a function of the
+//! refusal, and the call that puts a refusal into a sink.
 #![tactic(auto)]
 
 mod pieces;
+mod recipe;
 mod refusal;
 mod rules;
+mod shown;
 mod text;
 
+pub use recipe::{show_text, verdict_name};
 pub use refusal::{Refusal, put_refusal};
-
-#[cfg(test)]
-mod tests;
+pub use shown::Shown;

@@ -3,13 +3,15 @@
 ghost use Rattle.std.specs.Prelude.{◌≡◌, ◌≤◌, ◌+◌, ◌++◌, length};
 ghost use Rattle.arrayvec.specs.ArrayVec.{array_vec_len};
 ghost use Rattle.shelf_io.specs.Taking.{Puts};
-ghost use Rattle.shade_report.specs.Refusals.{fault_text, refusal_text, refused_text};
+ghost use Rattle.shade_report.specs.Refusals.{fault_text, job_fault_text, refusal_text, refused_text, steps_text};
 
 use crate::pieces::put_all;
-use crate::rules::rule_name;
+use crate::rules::{job_rule_name, part_name, rule_name};
 use crate::text::USAGE;
 use arrayvec::ArrayVec;
 use itoa::Buffer;
+use job_file::JobFault;
+use price_grid::LimitNo;
 use shelf_io::{Failed, Sink};
 use spectral_tables::TableFault;
 
@@ -24,8 +26,12 @@ pub enum Refusal<'a> {
     TooLong(&'a str),
     /// This file of curves or weights breaks a rule of tables.
     Table(&'a str, TableFault),
+    /// This file of a job breaks a rule of jobs.
+    Job(&'a str, JobFault),
     /// This file has no column of this name.
     NoColumn(&'a str, &'a str),
+    /// The steps are no recipe of the grid, or a recipe that breaks this limit.
+    Steps(Option<LimitNo>),
 }
 
 /// Puts the text of a refusal into the sink. It takes no memory, and fails only where a put failed.
@@ -36,7 +42,8 @@ pub fn put_refusal<O: Sink>(out: &mut O, refusal: &Refusal) -> Result<(), Failed
         Refusal::Usage => put_all(out, &[USAGE.as_bytes()]),
         Refusal::Unreadable(name) => put_all(out, &[b"unreadable ", name.as_bytes(), b"\n"]),
         Refusal::TooLong(name) => put_all(out, &[b"refused ", name.as_bytes(), b" TooLong\n"]),
-        Refusal::Table(name, fault) => put_table(out, name, fault),
+        Refusal::Table(name, fault) => put_refused(out, name, fault_text(fault).as_slice()),
+        Refusal::Job(name, fault) => put_refused(out, name, job_fault_text(fault).as_slice()),
         Refusal::NoColumn(name, column) => put_all(
             out,
             &[
@@ -47,6 +54,7 @@ pub fn put_refusal<O: Sink>(out: &mut O, refusal: &Refusal) -> Result<(), Failed
                 b"\n",
             ],
         ),
+        Refusal::Steps(limit) => put_steps(out, limit),
     }
 }
 
@@ -73,14 +81,41 @@ fn fault_text(fault: TableFault) -> ArrayVec<u8, 128>
     text
 }
 
-/// Puts the refusal of a table for its first fault.
-fn put_table<O: Sink>(out: &mut O, name: &str, fault: TableFault) -> Result<(), Failed>
-    ensures { Puts (refused_text name.now (fault_text fault)) result
-        (O.view out.old) (O.view out.new) }
+/// The part and the rule of a job's fault.
+fn job_fault_text(fault: JobFault) -> ArrayVec<u8, 128>
+    ensures { result.items ≡ job_fault_text fault }
 {
-    let why = fault_text(fault);
+    let mut text = ArrayVec::new();
+    push_all(&mut text, part_name(fault.part).as_bytes());
+    push_all(&mut text, b" ");
+    push_all(&mut text, Buffer::new().format(fault.item).as_bytes());
+    push_all(&mut text, b" ");
+    push_all(&mut text, Buffer::new().format(fault.sub).as_bytes());
+    push_all(&mut text, b" ");
+    push_all(&mut text, job_rule_name(fault.rule).as_bytes());
+    text
+}
+
+/// Puts the refusal of a file and why it is refused.
+fn put_refused<O: Sink>(out: &mut O, name: &str, why: &[u8]) -> Result<(), Failed>
+    ensures { Puts (refused_text name.now why.now) result (O.view out.old) (O.view out.new) }
+{
     let Ok(()) = put_all(out, &[b"refused ", name.as_bytes(), b" "]) else {
         return Err(Failed);
     };
-    put_all(out, &[why.as_slice(), b"\n"])
+    put_all(out, &[why, b"\n"])
+}
+
+/// Puts the refusal of a word for steps.
+fn put_steps<O: Sink>(out: &mut O, limit: Option<LimitNo>) -> Result<(), Failed>
+    ensures { Puts (steps_text limit) result (O.view out.old) (O.view out.new) }
+{
+    match limit {
+        None => put_all(out, &[b"steps refused\n"]),
+        Some(LimitNo(number)) => {
+            let mut buffer = Buffer::new();
+            let digits = buffer.format(number).as_bytes();
+            put_all(out, &[b"steps refused limit ", digits, b"\n"])
+        }
+    }
 }

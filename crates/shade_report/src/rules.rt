@@ -1,8 +1,9 @@
 //! The names of rules.
 
 ghost use Rattle.std.specs.Prelude.{◌≡◌, ◌≤◌, length};
-ghost use Rattle.shade_report.specs.Refusals.{rule_name};
+ghost use Rattle.shade_report.specs.Refusals.{job_rule_name, part_name, rule_name};
 
+use job_file::{JobRule, Part};
 use spectral_tables::TableRule;
 
 /// The name of a rule of tables.
@@ -20,5 +21,43 @@ pub(crate) fn rule_name(rule: TableRule) -> &'static str
         TableRule::NoWhite => "NoWhite",
         TableRule::WhiteNotPositive => "WhiteNotPositive",
         TableRule::Unbalanced => "Unbalanced",
+    }
+}
+
+/// The name of a part of a job.
+pub(crate) fn part_name(part: Part) -> &'static str
+    ensures is { result.now ≡ part_name part }
+    ensures short { length result.now ≤ 6 }
+{
+    match part {
+        Part::Job => "job",
+        Part::Light => "light",
+        Part::Dye => "dye",
+        Part::Dyeing => "dyeing",
+        Part::Pair => "pair",
+        Part::Batch => "batch",
+    }
+}
+
+/// The name of a rule of jobs.
+pub(crate) fn job_rule_name(rule: JobRule) -> &'static str
+    ensures is { result.now ≡ job_rule_name rule }
+    ensures short { length result.now ≤ 13 }
+{
+    match rule {
+        JobRule::NotToml => "NotToml",
+        JobRule::NotVersion1 => "NotVersion1",
+        JobRule::UnknownKey => "UnknownKey",
+        JobRule::MissingKey => "MissingKey",
+        JobRule::WrongKind => "WrongKind",
+        JobRule::OutOfRange => "OutOfRange",
+        JobRule::BadCount => "BadCount",
+        JobRule::DoubleDye => "DoubleDye",
+        JobRule::UnknownDye => "UnknownDye",
+        JobRule::SamePair => "SamePair",
+        JobRule::BatchLength => "BatchLength",
+        JobRule::TooWide => "TooWide",
+        JobRule::UnknownColumn => "UnknownColumn",
+        JobRule::TooStrong => "TooStrong",
     }
 }

@@ -6,4 +6,5 @@ usage: dye ks CURVES COLUMN
        dye xyz CURVES COLUMN WEIGHTS
        dye lab CURVES COLUMN WEIGHTS
        dye diff CURVES STANDARD SAMPLE WEIGHTS L10 C10 [TOL]
+       dye show JOB STEPS
 ";

@@ -4,17 +4,17 @@
 ghost use Rattle.std.specs.Prelude.{◌≡◌, ◌≤◌, codes, IfOk, map, option_map, string_bytes};
 ghost use Rattle.std.specs.Option.{ForSome};
 ghost use Rattle.dye_run.specs.Answers.{Evaluation, base_unit};
-ghost use Rattle.dye_run.specs.Asking.{ReadsDue};
 ghost use Rattle.dye_run.specs.Commands.{asking_of};
 ghost use Rattle.dye_run.specs.Diff.{diff_report, diff_with, diff_words, difference_report, tolerance_of, verdict_name};
 ghost use Rattle.dye_run.specs.Forms as form;
-ghost use Rattle.dye_run.specs.Judging.{IsJudged, Matches, Reports};
+ghost use Rattle.dye_run.specs.Judging.{Matches};
 ghost use Rattle.dye_run.specs.Views.{diff_view, tables_view, tolerance_view};
 
 use crate::colour::difference;
 use crate::inputs::read_tables;
+use crate::inquiry::Inquiry;
 use crate::lines::push_line;
-use crate::report::Report;
+use crate::report::{Report, plain_report};
 use crate::statuses::Conclusion;
 use crate::stop::Stop;
 use crate::tables::{Tables, curve_from};
@@ -112,30 +112,25 @@ impl<'a> Diff<'a> {
     }
 }
 
-/// Reads the curves and the weights, and reports the difference of the columns.
-pub(crate) fn judge<'a, H: Shelf>(
-    alloc: Global,
-    shelf: &mut H,
-    words: Diff<'a>,
-) -> Result<Report, Stop<'a>>
-    ensures judged { IsJudged (asking_of (form.diff (diff_view words.entry)))
-        (H.view shelf.old) (H.view shelf.new) result }
-    ensures reads { ReadsDue (asking_of (form.diff (diff_view words.entry)))
-        (H.view shelf.old) (H.view shelf.new) }
-{
-    let tables = read_tables(alloc, shelf, words.curves, words.weights)?;
-    report(alloc, words, &tables)
-}
+impl<'a> Inquiry<'a> for Diff<'a> {
+    type Input = Tables;
 
-#[tactic(auto, unfolding(crate::specs::Diff::diff_report))]
-fn report<'a>(alloc: Global, words: Diff<'a>, tables: &Tables) -> Result<Report, Stop<'a>>
-    ensures { Reports result (diff_report (diff_view words.entry) (tables_view tables.now)) }
-{
-    let standard = curve_from(words.curves, words.standard, &tables.book)?;
-    let sample = curve_from(words.curves, words.sample, &tables.book)?;
-    let found = difference(&words.rule, &tables.light, standard, sample);
-    let report = difference_report(alloc, words.tolerance, found)?;
-    Ok(report)
+    ghost asking = { λ c. asking_of (form.diff (diff_view c)) };
+
+    ghost judged = { λ c tables. diff_report (diff_view c) (tables_view tables) };
+
+    fn read<H: Shelf>(self, alloc: Global, shelf: &mut H) -> Result<Tables, Stop<'a>> {
+        read_tables(alloc, shelf, self.curves, self.weights)
+    }
+
+    #[tactic(auto, unfolding(crate::specs::Diff::diff_report))]
+    fn report(self, alloc: Global, tables: &Tables) -> Result<Report, Stop<'a>> {
+        let standard = curve_from(self.curves, self.standard, &tables.book)?;
+        let sample = curve_from(self.curves, self.sample, &tables.book)?;
+        let found = difference(&self.rule, &tables.light, standard, sample);
+        let report = difference_report(alloc, self.tolerance, found)?;
+        Ok(report)
+    }
 }
 
 fn verdict_name(verdict: Verdict) -> &'static str
@@ -161,10 +156,7 @@ fn difference_report(
     let mut text = Vec::new(alloc);
     push_line(&mut text, "DE", difference)?;
     let Some(tolerance) = tolerance else {
-        return Ok(Report {
-            conclusion: Conclusion::NoVerdict,
-            text,
-        });
+        return Ok(plain_report(text));
     };
     let verdict = judge_light(tolerance.thousandths, 1, difference);
     text.extend_from_slice(verdict_name(verdict).as_bytes())?;

@@ -2,17 +2,15 @@
 
 ghost use Rattle.std.specs.Prelude.{◌≡◌, IfOk, map, option_map, string_bytes};
 ghost use Rattle.dye_run.specs.Answers.{lines_of};
-ghost use Rattle.dye_run.specs.Asking.{ReadsDue};
 ghost use Rattle.dye_run.specs.Commands.{asking_of};
 ghost use Rattle.dye_run.specs.Forms as form;
-ghost use Rattle.dye_run.specs.Judging.{IsJudged, Reports};
 ghost use Rattle.dye_run.specs.Ks.{ks_evaluations, ks_report, ks_words};
 ghost use Rattle.dye_run.specs.Views.{ks_view};
 
 use crate::inputs::read_book;
+use crate::inquiry::Inquiry;
 use crate::lines::push_line;
-use crate::report::Report;
-use crate::statuses::Conclusion;
+use crate::report::{Report, plain_report};
 use crate::stop::Stop;
 use crate::tables::curve_from;
 use crate::words::names_file;
@@ -47,31 +45,23 @@ impl Ks<'_> {
     }
 }
 
-/// Reads the curves and reports the K/S of the column.
-pub(crate) fn judge<'a, H: Shelf>(
-    alloc: Global,
-    shelf: &mut H,
-    words: Ks<'a>,
-) -> Result<Report, Stop<'a>>
-    ensures judged { IsJudged (asking_of (form.ks (ks_view words.entry)))
-        (H.view shelf.old) (H.view shelf.new) result }
-    ensures reads { ReadsDue (asking_of (form.ks (ks_view words.entry)))
-        (H.view shelf.old) (H.view shelf.new) }
-{
-    let book = read_book(alloc, shelf, words.curves)?;
-    report(alloc, words, &book)
-}
+impl<'a> Inquiry<'a> for Ks<'a> {
+    type Input = CurveBook;
 
-#[tactic(auto, unfolding(crate::specs::Ks::ks_report))]
-fn report<'a>(alloc: Global, words: Ks<'a>, book: &CurveBook) -> Result<Report, Stop<'a>>
-    ensures { Reports result (ks_report (ks_view words.entry) book.now) }
-{
-    let curve = curve_from(words.curves, words.column, book)?;
-    let text = ks_text(alloc, curve)?;
-    Ok(Report {
-        conclusion: Conclusion::NoVerdict,
-        text,
-    })
+    ghost asking = { λ c. asking_of (form.ks (ks_view c)) };
+
+    ghost judged = { λ c book. ks_report (ks_view c) book };
+
+    fn read<H: Shelf>(self, alloc: Global, shelf: &mut H) -> Result<CurveBook, Stop<'a>> {
+        read_book(alloc, shelf, self.curves)
+    }
+
+    #[tactic(auto, unfolding(crate::specs::Ks::ks_report))]
+    fn report(self, alloc: Global, book: &CurveBook) -> Result<Report, Stop<'a>> {
+        let curve = curve_from(self.curves, self.column, book)?;
+        let text = ks_text(alloc, curve)?;
+        Ok(plain_report(text))
+    }
 }
 
 // A line for each wavelength of the curve, with its K/S at the base scale.

@@ -1,61 +1,27 @@
 //! `xyz`: the tristimulus ratios of one column under a light.
 
-ghost use Rattle.std.specs.Prelude.{◌≡◌, IfOk};
-ghost use Rattle.dye_run.specs.Answers.{lines_of};
-ghost use Rattle.dye_run.specs.Asking.{ReadsDue};
-ghost use Rattle.dye_run.specs.Commands.{asking_of};
-ghost use Rattle.dye_run.specs.Forms as form;
-ghost use Rattle.dye_run.specs.Judging.{IsJudged, Reports};
-ghost use Rattle.dye_run.specs.Views.{lit_view, tables_view};
-ghost use Rattle.dye_run.specs.Xyz.{xyz_evaluations, xyz_report};
+ghost use Rattle.dye_run.specs.Xyz.{xyz_evaluations};
 
 use crate::colour::curve_ratios;
-use crate::inputs::read_tables;
-use crate::lines::push_line;
-use crate::report::Report;
-use crate::statuses::Conclusion;
-use crate::stop::Stop;
-use crate::tables::{Tables, curve_from};
-use crate::words::LitColumn;
-use shelf_io::Shelf;
+use crate::coordinates::Coordinates;
+use crate::lines::three_lines;
 use spectral_tables::{Curve, Weights};
 use std::alloc::{AllocError, Global};
 
-/// Reads the curves and the weights, and reports the ratios of the column.
-pub(crate) fn judge<'a, H: Shelf>(
-    alloc: Global,
-    shelf: &mut H,
-    words: LitColumn<'a>,
-) -> Result<Report, Stop<'a>>
-    ensures judged { IsJudged (asking_of (form.xyz (lit_view words.entry)))
-        (H.view shelf.old) (H.view shelf.new) result }
-    ensures reads { ReadsDue (asking_of (form.xyz (lit_view words.entry)))
-        (H.view shelf.old) (H.view shelf.new) }
-{
-    let tables = read_tables(alloc, shelf, words.curves, words.weights)?;
-    report(alloc, words, &tables)
-}
+/// X/Xn, Y/Yn and Z/Zn.
+#[derive(Clone, Copy)]
+pub(crate) struct Xyz;
 
-#[tactic(auto, unfolding(crate::specs::Xyz::xyz_report))]
-fn report<'a>(alloc: Global, words: LitColumn<'a>, tables: &Tables) -> Result<Report, Stop<'a>>
-    ensures { Reports result (xyz_report (lit_view words.entry) (tables_view tables.now)) }
-{
-    let curve = curve_from(words.curves, words.column, &tables.book)?;
-    let text = xyz_text(alloc, &tables.light, curve)?;
-    Ok(Report {
-        conclusion: Conclusion::NoVerdict,
-        text,
-    })
-}
+impl Coordinates for Xyz {
+    ghost evaluations = { λ _. xyz_evaluations };
 
-// A line for each.
-fn xyz_text(alloc: Global, light: &Weights, curve: &Curve) -> Result<Vec<u8>, AllocError>
-    ensures { IfOk result (λ text. text.items ≡ lines_of (xyz_evaluations light.now curve.now)) }
-{
-    let ratios = curve_ratios(light, curve);
-    let mut text = Vec::new(alloc);
-    push_line(&mut text, "X/Xn", ratios.x)?;
-    push_line(&mut text, "Y/Yn", ratios.y)?;
-    push_line(&mut text, "Z/Zn", ratios.z)?;
-    Ok(text)
+    fn text(self, alloc: Global, light: &Weights, curve: &Curve) -> Result<Vec<u8>, AllocError> {
+        let ratios = curve_ratios(light, curve);
+        three_lines(
+            alloc,
+            ("X/Xn", ratios.x),
+            ("Y/Yn", ratios.y),
+            ("Z/Zn", ratios.z),
+        )
+    }
 }

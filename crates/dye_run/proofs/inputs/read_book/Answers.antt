@@ -1,5 +1,6 @@
 use Rattle.std.proofs.Common.{option_map, subst}
-use Rattle.dye_run.specs.Inputs.{asks_book, book_from}
+use Rattle.spectral_tables.specs.CurveFile.{curve_table_of}
+use Rattle.dye_run.specs.Inputs.{asks_book, table_from}
 use Rattle.dye_run.specs.Judging.{Gives}
 use Rattle.dye_run.proofs.Judged.{input_by}
 use Rattle.dye_run.proofs.inputs.read_book.Goals as goal
@@ -7,6 +8,6 @@ use Rattle.dye_run.proofs.inputs.read_book.Goals as goal
 pub returns-clause-input : goal.returns-clause-input
 returns-clause-input g c = λ judged.
     let came = option_map (λ b. b.items) c.in_ok-came.came in
-    input_by (asks_book c.args.curves.now judged) judged (λ b. b) (g.H.Shelf.view c.args.shelf.now) (g.H.Shelf.view c.due.new.shelf) c.book_from.result (book_from c.args.curves.now came)
+    input_by (asks_book c.args.curves.now judged) judged (λ b. b) (g.H.Shelf.view c.args.shelf.now) (g.H.Shelf.view c.due.new.shelf) c.table_from.result (table_from curve_table_of c.args.curves.now came)
     (λ o e. (came, c.in_ok-came.ensures.comes, e))
-    (subst (λ k. Gives (λ b. b) c.book_from.result (book_from c.args.curves.now k)) c.as_deref.ensures.value c.book_from.ensures)
+    (subst (λ k. Gives (λ b. b) c.table_from.result (table_from curve_table_of c.args.curves.now k)) c.as_deref.ensures.value c.table_from.ensures)

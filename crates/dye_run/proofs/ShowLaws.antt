@@ -1,0 +1,61 @@
+-- The report of `show`: its enclosures hold those of every finer scale, and its verdicts are true there.
+use Rattle.std.proofs.Common.{◌+◌, ◌*◌, ◌<◌, ◌≤◌, ℕ, List, [], ◌∷◌, Some, All, codes, decimal, ◌++◌, lit≤, refl, arith}
+use Rattle.std.proofs.lemmas.List.Elements.{All-cons}
+use Rattle.cielab_bounds.specs.Laws.{EnclosesLab}
+use Rattle.cielab_bounds.proofs.LabLaw.{lab_encloses}
+use Rattle.cmc_specs.proofs.Law.{any_colours_enclose}
+use Rattle.interval_specs.specs.Ends.{Ends}
+use Rattle.job_file.specs.declared.light.JobLight.{JobLight}
+use Rattle.job_file.specs.Resolve.{ResolvedJob, base_curve}
+use Rattle.ks_curves.specs.Dye.{DyeData}
+use Rattle.metamerism.specs.Difference.{colour_under}
+use Rattle.mix_model.specs.Mixture.{portions}
+use Rattle.mix_model.proofs.MixtureLaws.{any_mixture_encloses}
+use Rattle.recipe_judge.specs.Evaluation.{spectrum_of}
+use Rattle.spectral_tables.specs.Laws.{EnclosesWaves}
+use Rattle.spectral_tables.specs.Spectrum.{spectrum_at}
+use Rattle.spectral_tables.specs.WeightTable.{WeightTable}
+use Rattle.spectral_tables.proofs.SpectrumLaws.{spectrum_encloses}
+use Rattle.tristimulus.specs.Ratios.{ratios_at}
+use Rattle.tristimulus.proofs.RatioLaws.{ratio_not_negative, ratios_enclose}
+use Rattle.dye_run.specs.Answers.{StandsFiner, base_unit}
+use Rattle.dye_run.specs.Outcome.{outcome_of}
+use Rattle.dye_run.specs.Show.{ShowWords, light_evaluation, light_evaluations, recipe_from, show_report}
+use Rattle.dye_run.proofs.Colours.{no_more}
+use Rattle.dye_run.proofs.Proper.{IsProper, proper_report, proper_then}
+use Rattle.dye_run.proofs.Verdicts.{stands}
+
+-- a recipe has as many steps of each dye at the least as at the most
+one_recipe : (dyes : List DyeData) (recipe : List ℕ) → All (λ p. p.fewest ≤ p.most) (portions dyes recipe recipe)
+unfolding portions
+one_recipe [] recipe = λ k d h. absurd (omega arith)
+one_recipe (dye ∷ dyes) [] = λ k d h. absurd (omega arith)
+one_recipe (dye ∷ dyes) (n ∷ recipe) = All-cons (λ p. p.fewest ≤ p.most) (record { dye = dye; fewest = n; most = n }) (portions dyes recipe recipe) (omega arith) (one_recipe dyes recipe)
+
+-- the colour of spectra under weights
+colour_encloses : (n m : ℕ) (weights : WeightTable) (spectrum finer : List Ends) → 0 < m → EnclosesWaves m spectrum finer → EnclosesLab m (colour_under weights n spectrum) (colour_under weights (m * n) finer)
+unfolding colour_under ratios_at
+colour_encloses n m weights spectrum finer some h =
+    let at = λ (column : ℕ). ratio_not_negative n column spectrum weights in
+    lab_encloses n m (ratios_at n spectrum weights) (ratios_at (m * n) finer weights) some (at 0) (at 1) (at 2) (ratios_enclose n m spectrum finer weights h)
+
+light_stands : (r : ResolvedJob) (recipe : List ℕ) (number : ℕ) (light : JobLight) (weights : WeightTable) → StandsFiner (light_evaluation r recipe number light weights)
+light_stands r recipe number light weights =
+    let e = light_evaluation r recipe number light weights in
+    let curve = base_curve r.substrate r.batch in
+    stands e.label e.at (Some light.tolerance) (λ m some.
+    any_colours_enclose light.l10 light.c10 base_unit m _ _ _ _ (lit≤ tt) some
+    (colour_encloses base_unit m weights (spectrum_at base_unit r.standard) (spectrum_at (m * base_unit) r.standard) some (spectrum_encloses base_unit m r.standard))
+    (colour_encloses base_unit m weights (spectrum_of base_unit r recipe recipe) (spectrum_of (m * base_unit) r recipe recipe) some
+    (any_mixture_encloses base_unit m curve (portions r.dyes recipe recipe) (lit≤ tt) some (one_recipe r.dyes recipe))))
+
+lights_stand : (r : ResolvedJob) (recipe : List ℕ) (number : ℕ) (lights : List JobLight) (tables : List WeightTable) → All StandsFiner (light_evaluations r recipe number lights tables)
+unfolding light_evaluations
+lights_stand r recipe number [] tables = no_more
+lights_stand r recipe number (light ∷ lights) [] = no_more
+lights_stand r recipe number (light ∷ lights) (weights ∷ tables) =
+    All-cons StandsFiner (light_evaluation r recipe number light weights) (light_evaluations r recipe (number + 1) lights tables) (light_stands r recipe number light weights) (lights_stand r recipe (number + 1) lights tables)
+
+pub show_proper : (words : ShowWords) (r : ResolvedJob) → IsProper (outcome_of (show_report words r))
+unfolding show_report
+show_proper words r = proper_then (recipe_from r words.steps) _ (λ recipe. proper_report refl (lights_stand r recipe 1 r.job.light r.weights))

@@ -1,9 +1,0 @@
-use Rattle.std.proofs.Common.{refl}
-use Rattle.dye_run.specs.Answers.{plain_report}
-use Rattle.dye_run.specs.Ks.{ks_evaluations, ks_report}
-use Rattle.dye_run.proofs.commands.ks.report.Goals as goal
-
-pub returns : goal.returns
-unfolding ks_report
-returns c =
-    (plain_report (ks_evaluations 400 c.in_ok-curve.curve.now), rw c.in_ok-curve.ensures refl, record { conclusion = refl; text = c.in_ok-text.ensures; written = refl })

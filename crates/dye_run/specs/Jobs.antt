@@ -1,0 +1,78 @@
+-- A job with its files: its curves, and the weights of its lights in their order.
+use Rattle.std.specs.Prelude.{ℕ, List, [], ◌∷◌, ◌++◌, Option, Some, None, Result, Ok, Err, map}
+use Rattle.job_file.specs.Job.{Values, job_of}
+use Rattle.job_file.specs.Resolve.{ResolvedJob, resolved_job}
+use Rattle.job_file.specs.declared.fault.JobFault.{JobFault}
+use Rattle.job_file.specs.declared.top.BatchRule.{BatchRule}
+use Rattle.spectral_tables.specs.CurveBook.{Book}
+use Rattle.spectral_tables.specs.CurveFile.{curve_table_of}
+use Rattle.spectral_tables.specs.WeightTable.{WeightTable}
+use Rattle.spectral_tables.specs.WeightFile.{weight_table_of}
+use Rattle.dye_run.specs.Answers.{Report}
+use Rattle.dye_run.specs.Asking.{Asking, answers, asks}
+use Rattle.dye_run.specs.Inputs.{◌>>=◌, table_from, table_limit}
+use Rattle.dye_run.specs.Outcome.{Fault, job, outcome_of, refused, too_long}
+
+-- a file of a job has at most so many bytes
+abbrev pub job_limit : ℕ
+job_limit = 1000000
+
+-- what was made of a job, or why its file is refused
+abbrev pub unless_broken : {T : Type 0} → List ℕ → Result T JobFault → Result T Fault
+unless_broken name (Ok value) = Ok value
+unless_broken name (Err fault) = Err (job name fault)
+
+-- the job of a file, from what came of its read
+unfoldable pub job_from : BatchRule → List ℕ → Option (List ℕ) → Result Values Fault
+job_from rule name None = Err (too_long name)
+job_from rule name (Some bytes) = unless_broken name (job_of rule bytes)
+
+-- the files of weights that a job names, in the order of its lights
+abbrev pub light_files : Values → List (List ℕ)
+light_files j = map (λ light. light.weights) j.light
+
+-- the weights of files after those before them, from what came of their reads
+unfoldable pub weights_after : List WeightTable → List (List ℕ) → List (Option (List ℕ)) → Result (List WeightTable) Fault
+weights_after before [] came = Ok before
+weights_after before (name ∷ names) [] = Ok before
+weights_after before (name ∷ names) (first ∷ came) = do
+  weights ← table_from weight_table_of name first
+  weights_after (before ++ weights ∷ []) names came
+
+-- the curves of a job, and the weights of its lights
+pub record JobTables : Type 0 where
+  pub book : Book
+  pub weights : List WeightTable
+
+-- both, from what came of their reads: a fault of the curves before those of the weights in their order
+unfoldable pub job_tables_from : Values → Option (List ℕ) → List (Option (List ℕ)) → Result JobTables Fault
+job_tables_from j curves_came weights_came = do
+  book ← table_from curve_table_of j.head.curves curves_came
+  weights ← weights_after [] (light_files j) weights_came
+  Ok (record { book = book; weights = weights })
+
+-- these files of tables are due, one after the other
+unfoldable pub asks_each : List (List ℕ) → (List (Option (List ℕ)) → Asking) → Asking
+asks_each [] next = next []
+asks_each (name ∷ names) next = asks name table_limit (λ first. asks_each names (λ came. next (first ∷ came)))
+
+-- the curves of a job are due and then its weights, and all are judged when they have come
+abbrev pub asks_job_tables : Values → (JobTables → Result Report Fault) → Asking
+asks_job_tables j judged =
+    asks j.head.curves table_limit (λ curves_came. asks_each (light_files j) (λ weights_came.
+    answers (outcome_of (job_tables_from j curves_came weights_came >>= judged))))
+
+-- what a job comes to over its tables
+abbrev pub resolved_from : List ℕ → Values → JobTables → Result ResolvedJob Fault
+resolved_from name j tables = unless_broken name (resolved_job tables.book j tables.weights)
+
+abbrev pub unless_faulty_job : Result Values Fault → (Values → Asking) → Asking
+unless_faulty_job (Ok j) next = next j
+unless_faulty_job (Err fault) next = answers (refused fault)
+
+-- A job is due, and judged by itself when it has come; where it is accepted, its tables are due, and what it comes to over
+-- them is judged
+abbrev pub asks_job : BatchRule → List ℕ → (ResolvedJob → Result Report Fault) → Asking
+asks_job rule name judged =
+    asks name job_limit (λ came. unless_faulty_job (job_from rule name came) (λ j.
+    asks_job_tables j (λ tables. resolved_from name j tables >>= judged)))

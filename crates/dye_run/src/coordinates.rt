@@ -1,0 +1,56 @@
+//! Commands that report coordinates of one column under a light.
+
+ghost use Rattle.std.specs.Prelude.{◌≡◌, IfOk, List, ℕ};
+ghost use Rattle.spectral_tables.specs.WeightTable.{WeightTable};
+ghost use Rattle.dye_run.specs.Answers.{Evaluation, lines_of};
+ghost use Rattle.dye_run.specs.Coordinates.{coordinates_report};
+ghost use Rattle.dye_run.specs.Inputs.{asks_tables};
+ghost use Rattle.dye_run.specs.Views.{lit_view, tables_view};
+
+use crate::inputs::read_tables;
+use crate::inquiry::Inquiry;
+use crate::report::{Report, plain_report};
+use crate::stop::Stop;
+use crate::tables::{Tables, curve_from};
+use crate::words::LitColumn;
+use shelf_io::Shelf;
+use spectral_tables::{Curve, Weights};
+use std::alloc::{AllocError, Global};
+
+/// Which coordinates of a curve under a light.
+pub(crate) trait Coordinates: Copy {
+    // each with its label
+    ghost evaluations: { Self → WeightTable → List ℕ → List Evaluation };
+
+    /// A line for each.
+    fn text(self, alloc: Global, light: &Weights, curve: &Curve) -> Result<Vec<u8>, AllocError>
+        ensures { IfOk result (λ text.
+            text.items ≡ lines_of (evaluations self light.now curve.now)) };
+}
+
+/// A column, and which coordinates are reported of it.
+#[derive(Clone, Copy)]
+pub(crate) struct ColumnReport<'a, C>(pub LitColumn<'a>, pub C);
+
+impl<'a, C: Coordinates> Inquiry<'a> for ColumnReport<'a, C> {
+    type Input = Tables;
+
+    ghost asking = { λ c. asks_tables c.0.curves.now c.0.weights.now
+        (coordinates_report (C.evaluations c.1) (lit_view c.0)) };
+
+    ghost judged = { λ c tables.
+        coordinates_report (C.evaluations c.1) (lit_view c.0) (tables_view tables) };
+
+    fn read<H: Shelf>(self, alloc: Global, shelf: &mut H) -> Result<Tables, Stop<'a>> {
+        let ColumnReport(words, _) = self;
+        read_tables(alloc, shelf, words.curves, words.weights)
+    }
+
+    #[tactic(auto, unfolding(crate::specs::Coordinates::coordinates_report))]
+    fn report(self, alloc: Global, tables: &Tables) -> Result<Report, Stop<'a>> {
+        let ColumnReport(words, coordinates) = self;
+        let curve = curve_from(words.curves, words.column, &tables.book)?;
+        let text = coordinates.text(alloc, &tables.light, curve)?;
+        Ok(plain_report(text))
+    }
+}

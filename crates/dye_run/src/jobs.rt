@@ -1,0 +1,187 @@
+//! A job with its files: its curves, and the weights of its lights.
+
+ghost use Rattle.std.specs.Prelude.{◌≡◌, ◌≤◌, ℕ, List, [], All, IfErr, IfOk, IfSome, Option, Result, length, map, option_map};
+ghost use Rattle.std.specs.Option.{ForSome};
+ghost use Rattle.job_file.specs.JobView.{job_view};
+ghost use Rattle.job_file.specs.Resolve.{ResolvedJob};
+ghost use Rattle.job_file.specs.ResolvedView.{resolved_view};
+ghost use Rattle.spectral_tables.specs.CurveBook.{IsBook};
+ghost use Rattle.spectral_tables.specs.WeightTable.{IsWeightTable};
+ghost use Rattle.dye_run.specs.Answers.{Report};
+ghost use Rattle.dye_run.specs.Asking.{Asking, ReadsDue};
+ghost use Rattle.dye_run.specs.Jobs as spec;
+ghost use Rattle.dye_run.specs.Jobs.{asks_each, asks_job, asks_job_tables, job_tables_from, resolved_from, weights_after};
+ghost use Rattle.dye_run.specs.Judging.{Gives, GoesOn, IsInput, StopsHaving};
+ghost use Rattle.dye_run.specs.Outcome.{Fault};
+ghost use Rattle.dye_run.specs.Views.{came_view, job_tables_view};
+
+use crate::inputs::due;
+use crate::stop::Stop;
+use crate::tables::{TABLE_LIMIT, table_from};
+use job_file::{BatchRule, Job, JobError, JobLight, Resolved, read_job, resolve};
+use shade_report::Refusal;
+use shelf_io::Shelf;
+use spectral_tables::{CurveBook, Weights};
+use std::alloc::Global;
+
+/// How many bytes a file of a job may have.
+const JOB_LIMIT: u64 = 1_000_000;
+
+/// The curves of a job, and the weights of its lights in their order.
+#[derive(Drop)]
+pub(crate) struct JobTables {
+    pub book: CurveBook,
+    pub weights: Vec<Weights>,
+}
+
+/// The job of a file, of which these bytes came, or `None` where it is too long.
+#[tactic(auto, unfolding(crate::specs::Jobs::job_from))]
+fn job_from<'a>(
+    alloc: Global,
+    rule: BatchRule,
+    name: &'a str,
+    came: Option<&[u8]>,
+) -> Result<Job, Stop<'a>>
+    ensures { Gives job_view result
+        (spec.job_from rule name.now (option_map (λ b. b.now) came.entry)) }
+{
+    let Some(bytes) = came else {
+        return Err(Stop::Refused(Refusal::TooLong(name)));
+    };
+    match read_job(alloc, bytes, rule) {
+        Ok(job) => Ok(job),
+        Err(JobError::Fault(fault)) => Err(Stop::Refused(Refusal::Job(name, fault))),
+        Err(JobError::Memory) => Err(Stop::Memory),
+    }
+}
+
+/// Reads the files of weights of lights, which are due one after the other.
+fn read_lights<'n, H: Shelf>(
+    alloc: Global,
+    shelf: &mut H,
+    lights: &'n [JobLight],
+) -> Result<Vec<Option<Vec<u8>>>, Stop<'n>>
+    ensures came { (next : List (Option (List ℕ)) → Asking) → IfOk result (λ came.
+        GoesOn (asks_each (map (λ l. l.weights) lights.now) next) (next (map came_view came.items))
+        (H.view shelf.old) (H.view shelf.new)) }
+    ensures count { IfOk result (λ came. length came.items ≡ length lights.now) }
+    ensures short { IfOk result (λ came.
+        All (λ c. IfSome c (λ bytes. length bytes.items ≤ 1000000)) came.items) }
+    ensures stopped { (next : List (Option (List ℕ)) → Asking) → IfErr result (λ why.
+        StopsHaving (asks_each (map (λ l. l.weights) lights.now) next)
+        (H.view shelf.old) (H.view shelf.new) why) }
+{
+    let mut came = Vec::new(alloc);
+    for light in lights {
+        let bytes = due(alloc, shelf, light.weights.as_str(), TABLE_LIMIT)?;
+        came.push(bytes)?;
+    }
+    Ok(came)
+}
+
+/// The weights of lights, from what came of their files.
+fn weights_of<'n>(
+    alloc: Global,
+    lights: &'n [JobLight],
+    came: &[Option<Vec<u8>>],
+) -> Result<Vec<Weights>, Stop<'n>>
+    requires count { length came.now ≡ length lights.now }
+    requires short { All (λ c. IfSome c (λ bytes. length bytes.items ≤ 1000000)) came.now }
+    ensures is { Gives (λ w. w.items) result
+        (weights_after [] (map (λ l. l.weights) lights.now) (map came_view came.now)) }
+    ensures count { IfOk result (λ w. length w.items ≡ length lights.now) }
+    ensures held { IfOk result (λ w. All IsWeightTable w.items) }
+{
+    let mut weights = Vec::new(alloc);
+    for (i, light) in lights.iter().enumerate() {
+        let table: Weights = table_from(alloc, light.weights.as_str(), came[i].as_deref())?;
+        let _ = table.waves(); // called for its contract alone: what weights keep
+        weights.push(table)?;
+    }
+    Ok(weights)
+}
+
+/// The tables of a job, from what came of its files.
+#[tactic(auto, unfolding(crate::specs::Jobs::job_tables_from))]
+fn tables_of<'n>(
+    alloc: Global,
+    job: &'n Job,
+    curves: &Option<Vec<u8>>,
+    weights: &[Option<Vec<u8>>],
+) -> Result<JobTables, Stop<'n>>
+    requires curves { ForSome curves.now (λ bytes. length bytes.items ≤ 1000000) }
+    requires count { length weights.now ≡ length job.now.light.items }
+    requires short { All (λ c. IfSome c (λ bytes. length bytes.items ≤ 1000000)) weights.now }
+    ensures is { Gives job_tables_view result
+        (job_tables_from (job_view job.now) (came_view curves.now) (map came_view weights.now)) }
+    ensures count { IfOk result (λ t. length t.weights.items ≡ length job.now.light.items) }
+    ensures held { IfOk result (λ t. All IsWeightTable t.weights.items) }
+{
+    let book = table_from(alloc, job.curves.as_str(), curves.as_deref())?;
+    let weights = weights_of(alloc, job.light.as_slice(), weights)?;
+    Ok(JobTables { book, weights })
+}
+
+/// Reads the curves of a job and then the weights of its lights, which are all due, and their
+/// tables.
+fn read_job_tables<'n, H: Shelf>(
+    alloc: Global,
+    shelf: &mut H,
+    job: &'n Job,
+) -> Result<JobTables, Stop<'n>>
+    ensures input { (judged : spec.JobTables → Result Report Fault) →
+        IsInput (asks_job_tables (job_view job.now) judged) (λ t. judged (job_tables_view t))
+        (H.view shelf.old) (H.view shelf.new) result }
+    ensures reads { (judged : spec.JobTables → Result Report Fault) →
+        ReadsDue (asks_job_tables (job_view job.now) judged)
+        (H.view shelf.old) (H.view shelf.new) }
+    ensures count { IfOk result (λ t. length t.weights.items ≡ length job.now.light.items) }
+    ensures held { IfOk result (λ t. All IsWeightTable t.weights.items) }
+{
+    let curves = due(alloc, shelf, job.curves.as_str(), TABLE_LIMIT)?;
+    let weights = read_lights(alloc, shelf, job.light.as_slice())?;
+    tables_of(alloc, job, &curves, &weights)
+}
+
+/// What a job comes to over its tables.
+fn resolved_from<'a>(
+    alloc: Global,
+    name: &'a str,
+    job: Job,
+    tables: JobTables,
+) -> Result<Resolved, Stop<'a>>
+    requires count { length tables.weights.items ≡ length job.light.items }
+    requires held { All IsWeightTable tables.weights.items }
+    ensures { Gives resolved_view result
+        (resolved_from name.now (job_view job) (job_tables_view tables)) }
+{
+    let JobTables { book, weights } = tables;
+    let _ = book.find(""); // called for its contract alone: what a book keeps
+    match resolve(alloc, job, &book, weights) {
+        Ok(resolved) => Ok(resolved),
+        Err(JobError::Fault(fault)) => Err(Stop::Refused(Refusal::Job(name, fault))),
+        Err(JobError::Memory) => Err(Stop::Memory),
+    }
+}
+
+/// Reads a job and its tables, which are due, and what the job comes to.
+pub(crate) fn read_resolved<'a, H: Shelf>(
+    alloc: Global,
+    shelf: &mut H,
+    rule: BatchRule,
+    name: &'a str,
+) -> Result<Resolved, Stop<'a>>
+    ensures input { (judged : ResolvedJob → Result Report Fault) →
+        IsInput (asks_job rule name.now judged) (λ r. judged (resolved_view r))
+        (H.view shelf.old) (H.view shelf.new) result }
+    ensures reads { (judged : ResolvedJob → Result Report Fault) →
+        ReadsDue (asks_job rule name.now judged) (H.view shelf.old) (H.view shelf.new) }
+{
+    let came = due(alloc, shelf, name, JOB_LIMIT)?;
+    let job = job_from(alloc, rule, name, came.as_deref())?;
+    let tables = match read_job_tables(alloc, shelf, &job) {
+        Ok(tables) => tables,
+        Err(stop) => return Err(stop.owned(alloc)),
+    };
+    resolved_from(alloc, name, job, tables)
+}

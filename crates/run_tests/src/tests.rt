@@ -1,0 +1,7 @@
+mod calls;
+mod failures;
+mod files;
+mod jobs;
+mod refusals;
+mod reports;
+mod texts;
