@@ -1,23 +1,18 @@
--- Quotients of natural numbers, rounded down and up.
-use Rattle.std.proofs.Common.{◌≡◌, ◌+◌, ◌*◌, ◌/◌, ◌≤◌, ◌<◌, ◌+ℤ◌, ℕ, pos, subst, arith, ◌∙◌}
+-- A share of no units.
+use Rattle.std.proofs.Common.{◌≡◌, ◌*◌, ◌<◌, ◌∙◌, ℕ, pos, ap, sym, arith}
+use Rattle.std.proofs.Math.Nat.{zero-div}
 use Rattle.std.proofs.lemmas.Int.{ints}
 use Rattle.interval_specs.specs.Rounding.{floor_over, ceil_over}
-use Rattle.interval_specs.proofs.Rounds.{ceil_here, ceil_next, floor_of_natural}
+use Rattle.interval_specs.proofs.Rounds.{ceil_here, floor_of_natural}
 
--- z is what is divided, y what divides it, and p and q what is known of them
-pub down_is : (z y p q : ℕ) → z ≡ p → y ≡ q → pos (z / y) ≡ floor_over (pos p) q
-down_is z y p q e f = (λ i. pos (e i / f i)) ∙ floor_of_natural p q
+no_product : (numerator units : ℕ) → units ≡ 0 → numerator * units ≡ 0
+no_product numerator units none = ap (λ u. numerator * u) none ∙ omega arith
 
-up_next : (p q : ℕ) → 0 < q → p / q * q < p → pos (p / q + 1) ≡ ceil_over (pos p) q
-up_next p q some less =
-    let one_more : pos (p / q + 1) ≡ (pos (p / q) +ℤ pos 1) = omega (arith, ints) in
-    one_more ∙ ceil_next (pos (p / q)) (pos p) q some (floor_of_natural p q) (omega (arith, ints))
+pub none_down : (numerator units denominator : ℕ) → units ≡ 0 → pos 0 ≡ floor_over (pos (numerator * units)) denominator
+none_down numerator units denominator none =
+    ap pos (sym (zero-div denominator)) ∙ floor_of_natural 0 denominator ∙ ap (λ z. floor_over (pos z) denominator) (sym (no_product numerator units none))
 
-up_here : (p q : ℕ) → 0 < q → p ≤ p / q * q → pos (p / q) ≡ ceil_over (pos p) q
-up_here p q some reached = ceil_here (pos (p / q)) (pos p) q some (floor_of_natural p q) (omega (arith, ints))
-
-pub up_next_is : (z y p q : ℕ) → z ≡ p → y ≡ q → 0 < q → z / y * y < z → pos (z / y + 1) ≡ ceil_over (pos p) q
-up_next_is z y p q e f some less = (λ i. pos (e i / f i + 1)) ∙ up_next p q some (subst (λ x. x / q * q < x) e (subst (λ x. z / x * x < z) f less))
-
-pub up_here_is : (z y p q : ℕ) → z ≡ p → y ≡ q → 0 < q → z ≤ z / y * y → pos (z / y) ≡ ceil_over (pos p) q
-up_here_is z y p q e f some reached = (λ i. pos (e i / f i)) ∙ up_here p q some (subst (λ x. x ≤ x / q * q) e (subst (λ x. z ≤ z / x * x) f reached))
+pub none_up : (numerator units denominator : ℕ) → units ≡ 0 → 0 < denominator → pos 0 ≡ ceil_over (pos (numerator * units)) denominator
+none_up numerator units denominator none some =
+    let nothing = no_product numerator units none in
+    ceil_here (pos 0) (pos (numerator * units)) denominator some (none_down numerator units denominator none) (omega (arith, ints))

@@ -8,6 +8,7 @@ ghost use Rattle.ks_curves.specs.Calibration.{numerator_at, value_over};
 ghost use Rattle.ks_curves.specs.Slope.{KeepsNumerators, unit_sum};
 
 use crate::calibration::{numerator, square_sum};
+use crate::near::{near_slope, near_value};
 use crate::share::{share_down, share_up};
 use arrayvec::ArrayVec;
 use fix_bounds::{Base, Iv, Quick, Scale};
@@ -19,6 +20,9 @@ const MOST_WAVES: usize = 31;
 
 /// The two ends of a numerator at each wavelength, neither below 0.
 type Numerators = ArrayVec<(u128, u128), MOST_WAVES>;
+
+/// Guesses at the two ends of the slope at each wavelength, for the base scale.
+type Slopes = [(u64, u64); MOST_WAVES];
 
 /// A dye, by the cloths that were dyed with it: the units of a step, 1 to 8 dyeings of so many
 /// units each, and the undyed cloth. A unit is 0.001 percent of the weight of the cloth.
@@ -32,6 +36,7 @@ pub struct Dye {
     square_sum: u64,
     base: Numerators,
     quick: Numerators,
+    near: Slopes,
 }
 
 impl Model for Dye {
@@ -70,6 +75,20 @@ fn numerators<S: Scale>(substrate: &Curve, dyeings: &[(u32, Curve)]) -> Numerato
     kept
 }
 
+/// Guesses at the slope, from its numerators and its denominator.
+fn near_slopes(numerators: &[(u128, u128)], denominator: u64) -> Slopes {
+    let mut slopes = [(0, 0); MOST_WAVES];
+    for wave in 0..MOST_WAVES {
+        if let Some((low, high)) = numerators.get(wave) {
+            slopes[wave] = (
+                near_slope(*low, denominator),
+                near_slope(*high, denominator),
+            );
+        }
+    }
+    slopes
+}
+
 impl Dye {
     /// The dye of these dyeings of a cloth, and of recipes in steps of so many units.
     pub fn of(step: u32, substrate: Curve, dyeings: ArrayVec<(u32, Curve), 8>) -> Dye
@@ -82,6 +101,7 @@ impl Dye {
         let square_sum = square_sum(dyeings.as_slice());
         let base = numerators::<Base>(&substrate, dyeings.as_slice());
         let quick = numerators::<Quick>(&substrate, dyeings.as_slice());
+        let near = near_slopes(base.as_slice(), square_sum);
         Dye {
             step,
             substrate,
@@ -89,6 +109,7 @@ impl Dye {
             square_sum,
             base,
             quick,
+            near,
         }
     }
 
@@ -127,6 +148,19 @@ impl Dye {
         }
     }
 
+    /// A guess at the ends of the slope at a wavelength: at the base scale alone, since a division
+    /// costs less at the other.
+    #[inline(always)]
+    fn near<S: Scale>(&self, wave: usize) -> (u64, u64) {
+        if S::UNIT != Base::UNIT {
+            return (0, 0);
+        }
+        match self.near.as_slice().get(wave) {
+            Some(ends) => *ends,
+            None => (0, 0),
+        }
+    }
+
     /// The value of the calibration over units from `x0` to `x1` at a wavelength.
     pub(crate) fn value_over<S: Scale>(&self, x0: u32, x1: u32, wave: usize) -> Iv<S>
         requires wave { wave < length self.now.substrate }
@@ -137,8 +171,9 @@ impl Dye {
         ensures held { IsDye self.now }
     {
         let (low, high) = self.numerator::<S>(wave);
-        let below = share_down(low, x0, self.square_sum);
-        let above = share_up(high, x1, self.square_sum);
+        let (near_low, near_high) = self.near::<S>(wave);
+        let below = share_down(low, x0, self.square_sum, near_value(near_low, x0));
+        let above = share_up(high, x1, self.square_sum, near_value(near_high, x1));
         Iv::of_ends(below as i128, above as i128)
     }
 }

@@ -5,12 +5,15 @@
 mod calibration;
 mod contributions;
 mod dye;
+mod guessed;
 mod kubelka_munk;
 pub mod laws;
+mod near;
 mod share;
 
 pub use contributions::{contribution, contribution_range};
 pub use dye::Dye;
+pub use guessed::{quotient, quotient_up};
 pub use kubelka_munk::ks;
 
 #[cfg(test)]

@@ -1,31 +1,33 @@
-//! A number times units, over a denominator: one multiplication and one division.
+//! A number times units, over a denominator: one multiplication, and a quotient by a guess. Most
+//! boxes of recipes have no steps of some dyes, so that no units cost nothing.
 
 ghost use Rattle.std.specs.Prelude.{◌≡◌, ℕ, pos, ◌*◌, ◌^◌, ◌<◌, ◌≤◌};
 ghost use Rattle.interval_specs.specs.Rounding.{floor_over, ceil_over};
 
-/// `numerator * units / denominator`, rounded down.
+use crate::guessed::{quotient, quotient_up};
+
+/// `numerator * units / denominator`, rounded down; `near` is a guess at it.
 #[inline(always)]
-pub(crate) fn share_down(numerator: u128, units: u32, denominator: u64) -> u128
+pub(crate) fn share_down(numerator: u128, units: u32, denominator: u64, near: u64) -> u128
     requires room { numerator ≤ 10 ^ 25 }
     requires positive { 0 < denominator }
     ensures { pos result ≡ floor_over (pos (numerator * units)) denominator }
 {
-    numerator * u128::from(units) / u128::from(denominator)
+    if units == 0 {
+        return 0;
+    }
+    quotient(numerator * u128::from(units), denominator, near)
 }
 
-/// `numerator * units / denominator`, rounded up.
+/// `numerator * units / denominator`, rounded up; `near` is a guess at it.
 #[inline(always)]
-pub(crate) fn share_up(numerator: u128, units: u32, denominator: u64) -> u128
+pub(crate) fn share_up(numerator: u128, units: u32, denominator: u64, near: u64) -> u128
     requires room { numerator ≤ 10 ^ 25 }
     requires positive { 0 < denominator }
     ensures { pos result ≡ ceil_over (pos (numerator * units)) denominator }
 {
-    let product = numerator * u128::from(units);
-    let by = u128::from(denominator);
-    let whole = product / by;
-    if whole * by < product {
-        whole + 1
-    } else {
-        whole
+    if units == 0 {
+        return 0;
     }
+    quotient_up(numerator * u128::from(units), denominator, near)
 }

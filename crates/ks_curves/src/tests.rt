@@ -1,4 +1,5 @@
 use super::*;
+use crate::near::{near_slope, near_value};
 use arrayvec::ArrayVec;
 use fix_bounds::{Base, Iv, Quick, Scale};
 use spectral_tables::Curve;
@@ -47,4 +48,25 @@ fn a_dye_of_one_dyeing(rt: HostRuntime) {
     }
     assert_eq!(rt; ends(contribution::<Quick>(&dye, 1, 0)), (566_666, 566_667));
     assert_eq!(rt; (dye.waves(), dye.step()), (31, 10));
+}
+
+/// A wrong guess costs time and nothing else, so no clause speaks of it: here wrong ones are
+/// counted, for numerators up to 2^56 parts, as a dye of four dyeings has.
+#[test]
+fn guesses_are_mostly_right(rt: HostRuntime) {
+    let squares: u64 = 5_312_500;
+    let mut drawn: u64 = 1;
+    let mut wrong: u32 = 0;
+    for units in 1..4000u32 {
+        drawn = drawn
+            .wrapping_mul(6_364_136_223_846_793_005)
+            .wrapping_add(1_442_695_040_888_963_407);
+        let numerator = u128::from(drawn / 0x100);
+        let near = near_value(near_slope(numerator, squares), units);
+        let share = numerator.wrapping_mul(u128::from(units)) / u128::from(squares);
+        if share.wrapping_sub(u128::from(near)) > 1 {
+            wrong = wrong.saturating_add(1);
+        }
+    }
+    assert!(rt; wrong < 4);
 }

@@ -1,13 +1,8 @@
 -- Quotients of natural numbers by their inequalities.
-use Rattle.std.proofs.Common.{ℕ, ◌+◌, ◌*◌, ◌/◌, ◌-◌, ◌≡◌, ◌≤◌, ◌<◌, sym, arith, ⊎_elim, mul-le-mul_right, add-one-le}
-use Rattle.std.proofs.Math.Nat.{div-eq_of_lt-le}
+use Rattle.std.proofs.Common.{ℕ, ◌*◌, ◌≤◌, ◌<◌, arith, ⊎_elim, mul-le-mul_right, add-one-le}
 use Rattle.std.proofs.lemmas.Bool.{cases_lt}
 use Rattle.std.proofs.lemmas.Grind.{div_ceil_times}
 use Rattle.std.specs.Int.{div_ceil}
-
--- the number after a guess is the quotient rounded down
-pub next_is : (z d k : ℕ) → k * d ≤ z → d ≤ z - k * d → z - k * d < 2 * d → k + 1 ≡ z / d
-next_is z d k h p q = sym (div-eq_of_lt-le {k = k + 1} d {m = z} (omega arith) (omega arith))
 
 -- a quotient rounded up is the least factor that reaches it
 pub up_least : (z d k : ℕ) → 0 < d → z ≤ k * d → div_ceil z d ≤ k

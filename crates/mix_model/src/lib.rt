@@ -3,9 +3,9 @@
 #![tactic(auto)]
 
 mod base;
+mod by_unit;
 pub mod laws;
 mod mixing;
-mod quotient;
 mod reflectance;
 
 pub use base::BaseCurve;

@@ -4,8 +4,9 @@ ghost use Rattle.interval_specs.specs.Ranges.{UpTo};
 ghost use Rattle.interval_specs.specs.Roots.{square, root_below, root_above};
 ghost use Rattle.mix_model.specs.Reflectance.{reflectance_at};
 
-use crate::quotient::{over_unit, over_unit_up, quotient, quotient_up};
+use crate::by_unit::{over_unit, over_unit_up};
 use fix_bounds::{Iv, Scale, unit};
+use ks_curves::{quotient, quotient_up};
 use root_bounds::{sqrt_ceil, sqrt_floor};
 
 /// The lower end of 1 + q + sqrt(q^2 + 2q), from that of q.

@@ -1,9 +1,9 @@
 use super::*;
-use crate::quotient::{near_over_unit, over_unit, quotient};
+use crate::by_unit::{near_over_unit, over_unit};
 use crate::reflectance::{divisor_up, near_reflectance};
 use arrayvec::ArrayVec;
 use fix_bounds::{Base, Iv, Quick, Scale, unit};
-use ks_curves::Dye;
+use ks_curves::{Dye, quotient};
 use spectral_tables::Curve;
 
 fn ends<S: Scale>(iv: Iv<S>) -> (i128, i128) {

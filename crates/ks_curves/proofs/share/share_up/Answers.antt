@@ -1,11 +1,11 @@
-use Rattle.std.proofs.Common.{◌*◌, ap}
-use Rattle.ks_curves.proofs.Shares.{up_next_is, up_here_is}
+use Rattle.std.proofs.Common.{◌*◌, ◌∙◌, ap}
+use Rattle.std.specs.Int.{div_ceil}
+use Rattle.interval_specs.proofs.Rounds.{ceil_of_natural}
+use Rattle.ks_curves.proofs.Shares.{none_up}
 use Rattle.ks_curves.proofs.share.share_up.Goals as goal
 
-pub returns-then-whole-by : goal.returns-then-whole-by
-returns-then-whole-by c =
-    up_next_is (c.args.numerator * c.from.result) c.from-by.result (c.args.numerator * c.args.units) c.args.denominator (ap (λ u. c.args.numerator * u) c.from.ensures) c.from-by.ensures c.requires.positive c.if-whole-by.true
+pub returns-then-units-eq0 : goal.returns-then-units-eq0
+returns-then-units-eq0 c = none_up c.args.numerator c.args.units c.args.denominator c.if-units-eq0.true c.requires.positive
 
-pub returns-else-whole-by : goal.returns-else-whole-by
-returns-else-whole-by c =
-    up_here_is (c.args.numerator * c.from.result) c.from-by.result (c.args.numerator * c.args.units) c.args.denominator (ap (λ u. c.args.numerator * u) c.from.ensures) c.from-by.ensures c.requires.positive c.if-whole-by.false
+pub returns : goal.returns
+returns c = ceil_of_natural (c.args.numerator * c.args.units) c.args.denominator c.quotient_up.result c.requires.positive (c.quotient_up.ensures ∙ ap (λ u. div_ceil (c.args.numerator * u) c.args.denominator) c.from.ensures)

@@ -12,10 +12,10 @@ slope g c =
     slope_of g.S.Scale.unit _ c.args.self.now c.args.wave c.self.inside.square_sum c.numerator-low.result c.self.view_is c.self.invariant.is_dye c.self.invariant.denominator_is c.numerator-low.ensures.is c.numerator-low.ensures.range
 
 pub share_down-below-requires-clause-room : goal.share_down-below-requires-clause-room
-share_down-below-requires-clause-room g c = (numerators_small _ _ _ _ _ g.S.Scale.most (slope g c)).0
+share_down-below-requires-clause-room g c = (numerators_small _ _ _ _ _ g.S.Scale.most (slope g ((goal.at.share_down-below-requires-clause-room g c).After-self))).0
 
 pub share_down-below-requires-clause-positive : goal.share_down-below-requires-clause-positive
-share_down-below-requires-clause-positive g c = denominator_positive _ _ _ _ _ (slope g c)
+share_down-below-requires-clause-positive g c = denominator_positive _ _ _ _ _ (slope g ((goal.at.share_down-below-requires-clause-positive g c).After-self))
 
 pub share_up-above-requires-clause-room : goal.share_up-above-requires-clause-room
 share_up-above-requires-clause-room g c = (numerators_small _ _ _ _ _ g.S.Scale.most (slope g ((goal.at.share_up-above-requires-clause-room g c).After-self))).1

@@ -1,6 +1,6 @@
 use Rattle.std.proofs.Common.{◌≡◌, ◌+◌, ◌*◌, ◌∙◌, ap, arith}
-use Rattle.mix_model.proofs.Quotients.{next_is}
-use Rattle.mix_model.proofs.quotient.quotient.Goals as goal
+use Rattle.ks_curves.proofs.Quotients.{next_is}
+use Rattle.ks_curves.proofs.guessed.quotient.Goals as goal
 
 pub returns-else-left-by-2 : goal.returns-else-left-by-2
 returns-else-left-by-2 c =

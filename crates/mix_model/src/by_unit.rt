@@ -1,37 +1,9 @@
-//! Quotients by a guess and a test: a 128-bit division is a slow call.
+//! Quotients by the unit of a scale, by a guess and a test.
 ghost use Rattle.std.specs.Prelude.{◌≡◌, ◌*◌, ◌/◌, ◌^◌, ◌<◌, ◌≤◌, ℕ};
 ghost use Rattle.std.specs.Int.{div_ceil};
 
 use fix_bounds::{Scale, unit};
-
-/// The quotient of `z` by `divisor`, rounded down: `near` where a test shows that it is this or one
-/// less, and else by a division.
-#[inline(always)]
-pub(crate) fn quotient(z: u128, divisor: u64, near: u64) -> u128
-    requires { 0 < divisor }
-    ensures { result ≡ z / divisor }
-{
-    let by = u128::from(divisor);
-    let guess = u128::from(near);
-    let product = guess * by;
-    if product <= z {
-        let left = z - product;
-        if left < 2 * by {
-            return if left < by { guess } else { guess + 1 };
-        }
-    }
-    z / by
-}
-
-/// The same, rounded up.
-#[inline(always)]
-pub(crate) fn quotient_up(z: u128, divisor: u64, near: u64) -> u128
-    requires some { 0 < divisor }
-    requires room { z < 2 ^ 127 }
-    ensures { result ≡ div_ceil z divisor }
-{
-    quotient(z + u128::from(divisor - 1), divisor, near)
-}
+use ks_curves::quotient;
 
 /// The quotient of `z` by the unit of a scale, rounded down.
 #[inline(always)]

@@ -1,0 +1,18 @@
+//! Guesses at the value of a calibration. Nothing is claimed of them: a wrong one costs a division.
+
+/// A guess at the value at 2^24 units.
+pub(crate) fn near_slope(numerator: u128, denominator: u64) -> u64 {
+    low_word(numerator.wrapping_shl(24) / u128::from(denominator.max(1)))
+}
+
+/// A guess at the value at so many units, from that at 2^24.
+#[inline(always)]
+pub(crate) fn near_value(slope: u64, units: u32) -> u64 {
+    low_word(u128::from(slope).wrapping_mul(u128::from(units)) >> 24)
+}
+
+/// The lower 64 bits.
+#[inline(always)]
+fn low_word(x: u128) -> u64 {
+    (x & 0xFFFF_FFFF_FFFF_FFFF) as u64
+}
