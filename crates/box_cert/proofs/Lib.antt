@@ -10,6 +10,6 @@ mod Steps
 mod Parts
 mod Numerals
 mod Takes
-mod Again
+pub mod Again
 mod OneLine
 mod WholeText

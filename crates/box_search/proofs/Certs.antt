@@ -38,10 +38,10 @@ one_length n (r ∷ rs) h k a = record {
 }
 
 module _ (l : Land) (lawful : IsLawful l) where
-  steps_fit : (r : List ℕ) → IsWithin r l.top → StepsFit r
+  pub steps_fit : (r : List ℕ) → IsWithin r l.top → StepsFit r
   steps_fit r h = All-from_recursion (λ n. n ≤ 4000) r (small_steps r l.top.hi h.1 (recursion_from_All (λ n. n ≤ 4000) l.top.hi lawful.small))
 
-  length_is : (r : List ℕ) → IsWithin r l.top → length r ≡ length l.top.lo
+  pub length_is : (r : List ℕ) → IsWithin r l.top → length r ≡ length l.top.lo
   length_is r h = same_count l.top.lo r h.0
 
   -- the lines of boxes
@@ -78,7 +78,7 @@ module _ (l : Land) (lawful : IsLawful l) where
     go None None true fails e f i = tt
     go None None true unsure e f i = tt
 
-  lines_fit : (n budget : ℕ) (listed : List (List ℕ)) → All LineFits (canonical_lines l n)
+  pub lines_fit : (n budget : ℕ) (listed : List (List ℕ)) → All LineFits (canonical_lines l n)
   lines_fit n budget listed = All-from_recursion LineFits (canonical_lines l n)
       (at_top l lawful listed budget n (λ bs xs. AllByRecursion LineFits xs)
       (each_line l (is_judged l n) (λ bs xs. AllByRecursion LineFits xs) (tree_of l) 0 step (tree_of l) 0 (whole l lawful) (λ d u p. p) [] [] tt)) where
@@ -89,7 +89,7 @@ module _ (l : Land) (lawful : IsLawful l) where
           go false = tt
 
   module _ (budget n : ℕ) (listed : List (List ℕ)) where
-    listed_within : (claim : Claim) → IsCanonical l budget claim listed (canonical_lines l n) n → All (λ r. IsWithin r l.top) listed
+    pub listed_within : (claim : Claim) → IsCanonical l budget claim listed (canonical_lines l n) n → All (λ r. IsWithin r l.top) listed
     listed_within claim c =
         let cs = corners is_undecided_line (l.top ∷ []) (canonical_lines l n) in
         let inside = All-from_recursion (λ r. IsWithin r l.top) cs (at_top l lawful listed budget n (λ bs xs. AllByRecursion (λ r. IsWithin r l.top) (corners is_undecided_line bs xs))

@@ -1,11 +1,13 @@
-mod Certs
+pub mod Certs
 mod Emitting
 mod Endings
 mod Finding
 mod Frontier
 mod Orders
-mod Ranks
-mod Trees
+pub mod Ranks
+pub mod Results
+mod Rising
+pub mod Trees
 mod Turning
-mod Valid
-mod Walks
+pub mod Valid
+pub mod Walks

@@ -1,5 +1,5 @@
 -- The laws of a search and its certificate.
-use Rattle.std.specs.Prelude.{◌+◌, ◌*◌, ◌≤◌, ℕ, List, length}
+use Rattle.std.specs.Prelude.{◌≡◌, ◌+◌, ◌*◌, ◌≤◌, ℕ, List, length}
 use Rattle.box_specs.specs.declared.certificate.CertLine.{CertLine}
 use Rattle.box_specs.specs.declared.certificate.Claim.{Claim}
 use Rattle.box_specs.specs.Answer.{all_recipes}
@@ -8,6 +8,7 @@ use Rattle.box_specs.specs.Landscape.{IsLawful, Land}
 use Rattle.box_specs.specs.Span.{IsBox}
 use Rattle.box_specs.specs.Tree.{need}
 use Rattle.box_specs.specs.Validity.{IsValid}
+use Rattle.box_search.specs.Result.{SearchResult, search_result}
 
 -- what a search of any budget ends with is valid
 abbrev pub CanonicalIsValid : Land → Type 0
@@ -18,3 +19,15 @@ CanonicalIsValid l =
 -- of G recipes at most 2G - 1 boxes are needed, so that a search of that budget never ends at the budget
 abbrev pub NeedIsSmall : Land → Type 0
 NeedIsSmall l = IsBox l.top → need l + 1 ≤ 2 * length (all_recipes l)
+
+-- whatever search of a budget ends with is its one result
+abbrev pub ResultIsOne : Land → Type 0
+ResultIsOne l =
+    IsLawful l → (budget : ℕ) (result : SearchResult)
+    → IsCanonical l budget result.claim result.listed result.lines result.boxes → result ≡ search_result l budget
+
+-- there is such a result for each budget
+abbrev pub ResultIsCanonical : Land → Type 0
+ResultIsCanonical l =
+    IsLawful l → (budget : ℕ)
+    → IsCanonical l budget (search_result l budget).claim (search_result l budget).listed (search_result l budget).lines (search_result l budget).boxes

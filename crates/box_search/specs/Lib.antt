@@ -2,4 +2,5 @@ pub mod Answers
 pub mod Frontier
 pub mod Laws
 pub mod Places
+pub mod Result
 pub mod Trees

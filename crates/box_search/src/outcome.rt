@@ -3,6 +3,7 @@
 ghost use Rattle.std.specs.Prelude.{◌≡◌, ◌+◌, ◌≤◌, IfOk};
 ghost use Rattle.box_specs.specs.Canonical.{IsCanonical};
 ghost use Rattle.box_specs.specs.Validity.{IsValid};
+ghost use Rattle.box_search.specs.Result.{outcome_view, search_result};
 
 use crate::emit::emit;
 use crate::find::{Found, find};
@@ -28,6 +29,8 @@ pub fn search<L: Landscape>(
     requires few { budget ≤ 1000000 }
     ensures canonical { IfOk result (λ r. IsCanonical (L.land land.now) budget
         r.cert.claim r.cert.undecided r.cert.lines r.boxes) }
+    ensures is { IfOk result (λ r. outcome_view r
+        ≡ search_result (L.land land.now) budget) }
     ensures valid { IfOk result (λ r. IsValid (L.land land.now)
         r.cert.claim r.cert.undecided r.cert.lines) }
     ensures judged { IfOk result (λ r. L.judged_count land.now meter.new

@@ -1,0 +1,3 @@
+pub mod Searched
+mod Sizes
+mod Spelled
