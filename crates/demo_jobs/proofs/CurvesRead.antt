@@ -1,0 +1,133 @@
+-- A curve file that was printed of a book of curves is read as that book.
+use Rattle.std.proofs.Common.{◌≡◌, ◌+◌, ◌*◌, ◌^◌, ◌<◌, ◌≤◌, ◌==◌, nat_le, nat_lt, true, ℕ, zero, suc, pos, Ok, List, [], ◌∷◌, ◌++◌, codes, length, map, refl, sym, ap, ◌∙◌, append_assoc, eq-eqb, arith}
+use Rattle.std.specs.Prelude.{slice_index}
+use Rattle.std.specs.List.{range_with_len}
+use Rattle.std.specs.Map.{keys_of}
+use Rattle.std.proofs.Math.Nat.{div-le_self}
+use Rattle.std.proofs.lemmas.Bool.{le-leb, lt-ltb}
+use Rattle.std.proofs.lemmas.List.{append-nil, length-append, length-map}
+use Rattle.std.proofs.lemmas.List.FromFn.{fill_by_all}
+use Rattle.dec_text.specs.RoundTrip.{ReadsBack}
+use Rattle.spectral_tables.specs.Curve.{IsCurve, IsReflectance}
+use Rattle.spectral_tables.specs.CurveBook.{Book}
+use Rattle.spectral_tables.specs.CurveFile.{column_of, curve_table_of, curves_of, curves_under, names_of, next_reflectance, next_row, reflectance_of, row_of, rows_of}
+use Rattle.spectral_tables.specs.Faults.{each}
+use Rattle.spectral_tables.specs.Numbers.{is_wavelength}
+use Rattle.demo_jobs.specs.Cloths.{places}
+use Rattle.demo_jobs.specs.CurveText.{curve_record, curve_records, curve_text, percentage}
+use Rattle.demo_jobs.specs.Lines.{number_field, wavelength_field}
+use Rattle.demo_jobs.proofs.PlainFields.{ArePlain, IsPlain, number_plain, trims_stay}
+use Rattle.demo_jobs.proofs.RecordsRead.{AreRecords, records_read}
+
+-- each curve of a book is one
+abbrev pub AreCurves : Book → Type 0
+AreCurves [] = Unit {0}
+AreCurves (e ∷ book) = IsCurve e.1 × AreCurves book
+
+-- the values of a wavelength
+abbrev values : Book → ℕ → List ℕ
+values book place = map (λ e. slice_index e.1 place) book
+
+pub value_at : (curve : List ℕ) (place : ℕ) → IsCurve curve → place < 31 → IsReflectance (slice_index curve place)
+value_at curve place kept lt = kept.range place 0 (omega (arith, lt, kept.count))
+
+-- ---- the records are plain
+
+field_plain : (m : ℕ) → m ≤ 1000000 → IsPlain (number_field 4 m)
+field_plain m le = number_plain 4 m (omega (arith, div-le_self m (10 ^ 4)))
+
+percentages_plain : (book : Book) (place : ℕ) → AreCurves book → place < 31 → ArePlain (map (percentage place) book)
+percentages_plain [] place kept lt = tt
+percentages_plain (e ∷ book) place kept lt = (field_plain (slice_index e.1 place) (value_at e.1 place kept.0 lt).1, percentages_plain book place kept.1 lt)
+
+wavelength_plain : (place : ℕ) → place < 31 → IsPlain (wavelength_field place)
+wavelength_plain place lt = number_plain 0 (400 + 10 * place) (omega (arith, div-le_self (400 + 10 * place) (10 ^ 0)))
+
+record_plain : (book : Book) (place : ℕ) → AreCurves book → place < 31 → ArePlain (curve_record book place)
+unfolding curve_record
+record_plain book place kept lt = (wavelength_plain place lt, percentages_plain book place kept lt)
+
+records_plain : (e : List ℕ × List ℕ) (book : Book) (k n : ℕ) → AreCurves (e ∷ book) → k + n ≤ 31 → AreRecords (map (curve_record (e ∷ book)) (range_with_len k n))
+unfolding curve_record
+records_plain e book k zero kept le = tt
+records_plain e book k (suc n) kept le = (record_plain (e ∷ book) k kept (omega arith), records_plain e book (k + 1) n kept (omega arith))
+
+module _ (read : ReadsBack) where
+  -- ---- a record
+
+  percentage_read : (row column m : ℕ) → IsReflectance m → reflectance_of row column (number_field 4 m) ≡ Ok m
+  unfolding reflectance_of
+  percentage_read row column m range =
+      let low : nat_le 100 m ≡ true = le-leb 100 m range.0 in
+      let high : nat_le m 1000000 ≡ true = le-leb m 1000000 range.1 in
+      rw (read 4 (pos m) (omega (arith, range.1)), low, high) refl
+
+  percentages_read : (row place : ℕ) (book : Book) (before : List ℕ) → AreCurves book → place < 31 → each (next_reflectance row) before (map (percentage place) book) ≡ Ok (before ++ values book place)
+  percentages_read row place [] before kept lt = ap Ok (sym (append-nil before))
+  percentages_read row place (e ∷ book) before kept lt =
+      let m = slice_index e.1 place in
+      rw (percentage_read row (length before + 2) m (value_at e.1 place kept.0 lt))
+      (percentages_read row place book (before ++ m ∷ []) kept.1 lt ∙ ap Ok (append_assoc before (m ∷ []) (values book place)))
+
+  wavelength_read : (place : ℕ) → place < 31 → is_wavelength (400 + 10 * place) (wavelength_field place) ≡ true
+  unfolding is_wavelength
+  wavelength_read place lt = rw (read 0 (pos (400 + 10 * place)) (omega arith)) (eq-eqb (400 + 10 * place) (400 + 10 * place) refl)
+
+  record_read : (book : Book) (columns place : ℕ) → columns ≡ length book + 1 → AreCurves book → place < 31 → row_of columns place (curve_record book place) ≡ Ok (values book place)
+  unfolding row_of curve_record
+  record_read book columns place count kept lt =
+      let within : nat_lt place 31 ≡ true = lt-ltb place 31 lt in
+      let as_many : (length (wavelength_field place ∷ map (percentage place) book) == columns) ≡ true = eq-eqb _ columns (omega (arith, count, length-map book (percentage place))) in
+      rw (within, as_many, wavelength_read place lt) (percentages_read (place + 2) place book [] kept lt)
+
+  rows_read : (book : Book) (columns k n : ℕ) (before : List (List ℕ)) → columns ≡ length book + 1 → AreCurves book → length before ≡ k → k + n ≤ 31
+      → each (next_row columns) before (map (curve_record book) (range_with_len k n)) ≡ Ok (before ++ map (values book) (range_with_len k n))
+  rows_read book columns k zero before count kept at le = ap Ok (sym (append-nil before))
+  rows_read book columns k (suc n) before count kept at le =
+      let lt : k < 31 = omega arith in
+      let this = values book k in
+      let here : row_of columns k (curve_record book k) ≡ Ok this = record_read book columns k count kept lt in
+      let there = rows_read book columns (k + 1) n (before ++ this ∷ []) count kept (omega (arith, length-append before (this ∷ []))) (omega arith) in
+      rw (trims_stay (curve_record book k) (record_plain book k kept lt), at, here) (there ∙ ap Ok (append_assoc before (this ∷ []) (map (values book) (range_with_len (k + 1) n))))
+
+  all_rows : (book : Book) (columns : ℕ) → columns ≡ length book + 1 → AreCurves book → rows_of columns (map (curve_record book) places) ≡ Ok (map (values book) places)
+  unfolding rows_of places
+  all_rows book columns count kept =
+      rw (rows_read book columns 0 31 [] count kept refl (omega arith)) refl
+
+  -- ---- the columns
+
+  -- the value behind those of other curves
+  behind : (before : Book) (e : List ℕ × List ℕ) (rest : Book) (place : ℕ) → slice_index (values (before ++ e ∷ rest) place) (length before) ≡ slice_index e.1 place
+  behind [] e rest place = refl
+  behind (b ∷ before) e rest place = behind before e rest place
+
+  column : (before : Book) (e : List ℕ × List ℕ) (rest : Book) (ps : List ℕ) → column_of (length before) (map (values (before ++ e ∷ rest)) ps) ≡ map (λ place. slice_index e.1 place) ps
+  column before e rest [] = refl
+  column before e rest (p ∷ ps) = λ i. behind before e rest p i ∷ column before e rest ps i
+
+  whole_curve : (curve : List ℕ) → IsCurve curve → map (λ place. slice_index curve place) places ≡ curve
+  unfolding places
+  whole_curve curve kept = sym (fill_by_all (λ place. slice_index curve place) curve 31 0 kept.count (λ k lt. refl))
+
+  columns_are : (before rest : Book) → AreCurves rest → curves_under before (map (values (before ++ rest)) places) (keys_of rest) ≡ before ++ rest
+  columns_are before [] kept = sym (append-nil before)
+  columns_are before (e ∷ rest) kept =
+      let found : column_of (length before) (map (values (before ++ e ∷ rest)) places) ≡ e.1 = column before e rest places ∙ whole_curve e.1 kept.0 in
+      let all : (before ++ e ∷ []) ++ rest ≡ before ++ e ∷ rest = append_assoc before (e ∷ []) rest in
+      let there = columns_are (before ++ e ∷ []) rest kept.1 in
+      ap (λ c. curves_under (before ++ (e.0, c) ∷ []) (map (values (before ++ e ∷ rest)) places) (keys_of rest)) found
+      ∙ ap (λ whole. curves_under (before ++ e ∷ []) (map (values whole) places) (keys_of rest)) (sym all) ∙ there ∙ all
+
+  -- ---- the file
+
+  pub book_read : (e : List ℕ × List ℕ) (book : Book) → AreCurves (e ∷ book) → ArePlain (keys_of (e ∷ book)) → names_of (codes "nm" ∷ keys_of (e ∷ book)) ≡ Ok (keys_of (e ∷ book))
+      → curve_table_of (curve_text (e ∷ book)) ≡ Ok (e ∷ book)
+  unfolding curve_text curve_records curves_of places
+  book_read e book kept plain names =
+      let whole = e ∷ book in
+      let records = map (curve_record whole) (range_with_len 0 31) in
+      let split = records_read e.0 (keys_of book) records plain (records_plain e book 0 31 kept (omega arith)) in
+      let header = trims_stay (codes "nm" ∷ keys_of whole) (((refl, (refl, tt)), plain)) in
+      let rows = all_rows whole (length (keys_of whole) + 1) (ap (λ n. n + 1) (length-map whole (λ x. x.0))) kept in
+      ap curves_of split ∙ rw (header, names, rows) (ap Ok (columns_are [] whole kept))

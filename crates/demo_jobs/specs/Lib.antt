@@ -1,0 +1,11 @@
+pub mod Draws
+pub mod Dyes
+pub mod Cloths
+pub mod Standard
+pub mod Lines
+pub mod CurveText
+pub mod WeightsText
+pub mod Members
+pub mod JobTable
+pub mod Values
+pub mod Accepted

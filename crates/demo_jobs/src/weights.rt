@@ -1,0 +1,66 @@
+//! The weights of the two lights.
+
+ghost use Rattle.std.specs.Prelude.{◌≡◌, ◌≤◌, ◌<◌};
+ghost use Rattle.demo_jobs.specs.WeightsText.{decimals_of, first_weights, weights_at, white_of};
+
+use crate::cloths::triangle;
+
+/// A light of a job.
+#[derive(Debug, Clone, Copy)]
+pub(crate) enum Light {
+    /// Its weights are whole numbers.
+    First,
+    /// Its weights have one decimal.
+    Second,
+}
+
+/// The weights of the first light at a place, for X, Y and Z.
+fn first_weights(place: u32) -> [u32; 3]
+    ensures { result ≡ first_weights place }
+{
+    [
+        triangle(8, 20, place) + triangle(3, 4, place),
+        triangle(10, 15, place),
+        2 * triangle(6, 5, place),
+    ]
+}
+
+impl Light {
+    /// How many decimals the weights have.
+    pub(crate) fn decimals(self) -> u8
+        ensures is { result ≡ decimals_of self }
+        ensures few { result ≤ 12 }
+    {
+        match self {
+            Light::First => 0,
+            Light::Second => 1,
+        }
+    }
+
+    /// The weights at a place, counted in their last decimal: those of the second light are those
+    /// of the first times `(10 + place) / 10`.
+    #[tactic(auto, unfolding(crate::specs::WeightsText::weights_at))]
+    pub(crate) fn weights(self, place: u32) -> [u32; 3]
+        requires { place < 31 }
+        ensures { result ≡ weights_at self place }
+    {
+        match self {
+            Light::First => first_weights(place),
+            Light::Second => {
+                let [x, y, z] = first_weights(place);
+                let tenths = 10 + place;
+                [x * tenths, y * tenths, z * tenths]
+            }
+        }
+    }
+
+    /// The white values, counted in their last decimal: the sums of the weights.
+    pub(crate) fn white(self) -> [u32; 3]
+        ensures { result ≡ white_of self }
+    {
+        match self {
+            Light::First => [73, 100, 72],
+            Light::Second => [2046, 2500, 1080],
+        }
+    }
+}

@@ -1,0 +1,20 @@
+//! The laws. A call does nothing; what it ensures is the law.
+
+ghost use Rattle.job_laws.specs.Laws.{AcceptsEither, BudgetFits, FilesAreNoCerts, TableAcceptsEither};
+
+/// A job that is accepted, whatever the rule of its batch, is accepted with the same values where
+/// a batch may be in it or not.
+pub fn batch_rule()
+    ensures text { AcceptsEither }
+    ensures table { TableAcceptsEither }
+{}
+
+/// No name of a file in an accepted job ends with `.cert`.
+pub fn files()
+    ensures { FilesAreNoCerts }
+{}
+
+/// The budget of an accepted job is 1 to 1,000,000 boxes.
+pub fn budget()
+    ensures { BudgetFits }
+{}
