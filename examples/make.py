@@ -64,6 +64,8 @@ def write_curves():
     for name in DYES:
         for percent in PERCENT:
             columns[f"{name}{round(percent * 100):03d}"] = lambda nm, n=name, p=percent: dyed(nm, [(n, p)])
+    # a batch that was dyed with the recipe that `predict olive.toml` prints, and took up less of it
+    columns["batch"] = lambda nm: dyed(nm, [("yellow", 0.9 * 1.06), ("blue", 0.93 * 0.06), ("navy", 0.93 * 0.56)])
     with open("curves.csv", "w") as out:
         out.write("nm," + ",".join(columns) + "\n")
         for nm in WAVELENGTHS:

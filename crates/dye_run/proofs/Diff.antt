@@ -23,11 +23,11 @@ difference_stands words light standard sample =
     (curve_lab_encloses base_unit m light standard some) (curve_lab_encloses base_unit m light sample some)))
     no_more
 
-difference_proper : (tolerance : Option ℕ) (e : Evaluation) → All StandsFiner (e ∷ []) → IsProper (reported (difference_report tolerance e))
+difference_proper : (tolerance : Option ℕ) (e : Evaluation) → All StandsFiner (e ∷ []) → IsProper None (reported (difference_report tolerance e))
 difference_proper None e h = proper_report refl h
 difference_proper (Some t) e h = proper_report refl h
 
-pub diff_proper : (words : DiffWords) (tables : Tables) → IsProper (outcome_of (diff_report words tables))
+pub diff_proper : (words : DiffWords) (tables : Tables) → IsProper None (outcome_of (diff_report words tables))
 unfolding diff_report
 diff_proper words tables =
     proper_then (curve_from words.curves words.standard tables.book) _ (λ standard. proper_then (curve_from words.curves words.sample tables.book) _ (λ sample.

@@ -1,63 +1,37 @@
--- A text that was put ends a call.
-use Rattle.std.proofs.Common.{◌≡◌, ◌≤◌, ◌+◌, ℕ, List, length, Option, None, IsTrue, Result, Ok, Err, is_err, if◌then◌else◌, refl, sym, ap, ◌∙◌, subst, arith}
-use Rattle.std.specs.Io.KnownBytes.{append_known}
+-- How a call ends, by what was read, written and printed.
+use Rattle.std.proofs.Common.{◌≡◌, ◌≤◌, ◌+◌, ◌-◌, ℕ, List, length, Option, Some, None, IfSome, IsTrue, Result, Ok, Err, is_err, if◌then◌else◌, option_map, refl, sym, ap, ◌∙◌, subst, inl, inr, arith}
 use Rattle.std.proofs.lemmas.Bool.{false≢true}
-use Rattle.shelf_io.specs.Contents.{Contents}
-use Rattle.shelf_io.specs.Taking.{AddsPrefix, Puts}
-use Rattle.shelf_io.specs.View.{SinkView}
-use Rattle.dye_run.specs.Asking.{ReadsDue}
-use Rattle.dye_run.specs.Commands.{asking_for}
-use Rattle.dye_run.specs.Endings.{Changes, Ended, Reaches, World, not_written_status, with_written}
-use Rattle.dye_run.specs.Endings as ended
-use Rattle.dye_run.specs.Forms.{Form}
-use Rattle.dye_run.specs.Outcome.{Outcome, refusal_outcome, status_of, text_of, written_of}
+use Rattle.box_cert.specs.Writing.{IsCutOff, Writes}
+use Rattle.shelf_io.specs.Changes.{OnlyReads, OnlyWrites}
+use Rattle.shelf_io.specs.Contents.{Contents, write_bytes}
+use Rattle.shelf_io.specs.Taking.{Puts}
+use Rattle.shelf_io.specs.View.{ShelfView, SinkView}
 use Rattle.shade_report.specs.Refusals.{refusal_text}
 use Rattle.shade_report.specs.declared.refusal.Refusal.{Refusal}
 use Rattle.shade_report.specs.declared.refusal.Refusal.TheVariants as why
-
-same_files : (written : Option (List ℕ × List ℕ)) (old new : Option Contents) → written ≡ None → new ≡ old → new ≡ with_written written old
-same_files written old new w e = subst (λ f. new ≡ with_written f old) (sym w) e
+use Rattle.dye_run.specs.Answers.{Report}
+use Rattle.dye_run.specs.Asking.{Answers, Asking, IsDue, MayTake, ReadsDue}
+use Rattle.dye_run.specs.Commands.{asking_for}
+use Rattle.dye_run.specs.Delivery.{Delivers, IsWritten, Prints}
+use Rattle.dye_run.specs.Delivery as delivery
+use Rattle.dye_run.specs.Endings.{Changes, ChangesFiles, Ended, FailsToWrite, IsPut, IsSearchable, IsSearched, Reaches, World, not_written_status, with_written, world}
+use Rattle.dye_run.specs.Endings as ended
+use Rattle.dye_run.specs.Forms.{Form, written_by}
+use Rattle.dye_run.specs.Outcome.{Outcome, conclusion_status, not_written, refusal_outcome, reported, status_of, text_of, written_of}
 
 zero_more : (n : ℕ) → n ≡ n + 0
 zero_more n = omega arith
 
--- an outcome that writes no file, and whose text was put, ends the call
-pub ended_by : {T E : Type 0} (form : Option Form) (before after : World) (o : Outcome) (text : List ℕ) (status result : ℕ) (put : Result T E)
-    → Reaches (asking_for form) before.shelf after.shelf o → written_of o ≡ None → after.shelf.contents ≡ before.shelf.contents → text ≡ text_of o → status ≡ status_of o
-    → Puts text put before.sink after.sink → result ≡ (if is_err put then not_written_status else status) → Ended form before after result
-ended_by form before after o text status result (Ok x) reached none same t s puts r =
-    ended.spoke o reached (r ∙ s) (record {
-      taken = puts.taken ∙ ap (append_known before.sink.taken) t;
-      counted = puts.counted;
-      contents = same_files (written_of o) before.shelf.contents after.shelf.contents none same;
-    })
-ended_by form before after o text status result (Err e) reached none same t s puts r =
-    ended.cut_off o reached r (record {
-      taken = subst (AddsPrefix before.sink.taken after.sink.taken) t puts.taken;
-      counted = puts.counted;
-      contents = same_files (written_of o) before.shelf.contents after.shelf.contents none same;
-    }) (λ h. let P : List ℕ → Type 0 = λ t. IsTrue (before.sink.puts_promised (length t)) in
-    let Q : ℕ → Type 0 = λ k. IsTrue (before.sink.puts_promised k) in
-    false≢true (puts.promised 0 (subst Q (zero_more (length text)) (subst P (sym t) h))).0)
+-- ---- printing
 
-puts_grow : {T E : Type 0} (text : List ℕ) (put : Result T E) (before after : SinkView) → Puts text put before after → before.faults ≤ after.faults
-puts_grow text (Ok x) before after puts = let e = puts.counted in omega (arith, e)
-puts_grow text (Err x) before after puts = puts.counted.0
+-- a text that was put was printed
+pub prints_by : {T E : Type 0} (text : List ℕ) (status result : ℕ) (put : Result T E) (before after : SinkView) → Puts text put before after → result ≡ (if is_err put then not_written_status else status) → Prints text status before after result
+prints_by text status result (Ok x) before after puts r = delivery.whole puts.taken puts.counted r
+prints_by text status result (Err e) before after puts r =
+    delivery.cut puts.taken puts.counted r
+    (λ h. let Q : ℕ → Type 0 = λ k. IsTrue (before.puts_promised k) in false≢true (puts.promised 0 (subst Q (zero_more (length text)) h)).0)
 
--- what a call that read due files and then put a text changes
-pub changes_by : {T E : Type 0} (form : Option Form) (before after : World) (text : List ℕ) (put : Result T E) → ReadsDue (asking_for form) before.shelf after.shelf → Puts text put before.sink after.sink → Changes form before after
-changes_by form before after text put reads puts = record { only = reads.only; taken = reads.taken; puts = puts_grow text put before.sink after.sink puts }
-
--- a refusal writes no file, and its text is that of its outcome
-pub refusal_writes : (r : Refusal) → written_of (refusal_outcome r) ≡ None
-refusal_writes why.Usage = refl
-refusal_writes (why.Unreadable name) = refl
-refusal_writes (why.TooLong name) = refl
-refusal_writes (why.Table name fault) = refl
-refusal_writes (why.Job name fault) = refl
-refusal_writes (why.NoColumn name column) = refl
-refusal_writes (why.Steps limit) = refl
-
+-- the text of a refusal is that of its outcome
 pub refusal_says : (r : Refusal) → refusal_text r ≡ text_of (refusal_outcome r)
 refusal_says why.Usage = refl
 refusal_says (why.Unreadable name) = refl
@@ -66,3 +40,172 @@ refusal_says (why.Table name fault) = refl
 refusal_says (why.Job name fault) = refl
 refusal_says (why.NoColumn name column) = refl
 refusal_says (why.Steps limit) = refl
+refusal_says (why.CertGrammar fault) = refl
+refusal_says (why.CertWrong line reason) = refl
+refusal_says (why.NotWritten name) = refl
+
+-- a refusal writes no file
+pub refusal_writes : (r : Refusal) → written_of (refusal_outcome r) ≡ None
+refusal_writes why.Usage = refl
+refusal_writes (why.Unreadable name) = refl
+refusal_writes (why.TooLong name) = refl
+refusal_writes (why.Table name fault) = refl
+refusal_writes (why.Job name fault) = refl
+refusal_writes (why.NoColumn name column) = refl
+refusal_writes (why.Steps limit) = refl
+refusal_writes (why.CertGrammar fault) = refl
+refusal_writes (why.CertWrong line reason) = refl
+refusal_writes (why.NotWritten name) = refl
+
+-- and speaks of no recipes
+pub refusal_searched : (r : Refusal) → IsSearched (refusal_outcome r)
+refusal_searched why.Usage = tt
+refusal_searched (why.Unreadable name) = tt
+refusal_searched (why.TooLong name) = tt
+refusal_searched (why.Table name fault) = tt
+refusal_searched (why.Job name fault) = tt
+refusal_searched (why.NoColumn name column) = tt
+refusal_searched (why.Steps limit) = tt
+refusal_searched (why.CertGrammar fault) = tt
+refusal_searched (why.CertWrong line reason) = tt
+refusal_searched (why.NotWritten name) = tt
+
+-- a refusal that was put was printed
+pub refusal_printed : {T E : Type 0} (r : Refusal) (status result : ℕ) (put : Result T E) (before after : SinkView) → Puts (refusal_text r) put before after → status ≡ status_of (refusal_outcome r)
+    → result ≡ (if is_err put then not_written_status else status) → Prints (text_of (refusal_outcome r)) (status_of (refusal_outcome r)) before after result
+refusal_printed r status result put before after puts s e =
+    prints_by (text_of (refusal_outcome r)) (status_of (refusal_outcome r)) result put before after
+    (subst (λ text. Puts text put before after) (refusal_says r) puts) (e ∙ ap (λ k. if is_err put then not_written_status else k) s)
+
+-- ---- a refusal
+
+same_files : (written : Option (List ℕ × List ℕ)) (old new : Option Contents) → written ≡ None → new ≡ old → new ≡ with_written written old
+same_files written old new w e = subst (λ f. new ≡ with_written f old) (sym w) e
+
+-- an outcome that writes no file, and was printed, ends the call
+pub ended_by : (form : Option Form) (before after : World) (o : Outcome) (result : ℕ) → Reaches (asking_for form) before.shelf after.shelf o → written_of o ≡ None → after.shelf.contents ≡ before.shelf.contents
+    → Prints (text_of o) (status_of o) before.sink after.sink result → IsSearched o → Ended form before after result
+ended_by form before after o result reached none same (delivery.whole taken counted r) searched =
+    ended.spoke o reached r (record { taken = taken; counted = counted; contents = same_files (written_of o) before.shelf.contents after.shelf.contents none same }) searched
+ended_by form before after o result reached none same (delivery.cut taken counted r unpromised) searched =
+    ended.cut_off o reached r (record { taken = taken; counted = counted; contents = same_files (written_of o) before.shelf.contents after.shelf.contents none same }) unpromised
+
+-- ---- a report, with its file
+
+-- a report is over what came of the reads
+reported_answers : (asking : Asking) (before after : ShelfView) (r : Report) → Reaches asking before after (reported r) → Answers before.contents asking (reported r)
+reported_answers asking before after r (inl w) = w
+reported_answers asking before after r (inr u) = let e = u.2 in cc
+
+written_files : (file : Option (List ℕ × List ℕ)) (before mid after : ShelfView) → mid.contents ≡ before.contents → IsWritten file mid after → after.contents ≡ with_written file before.contents
+written_files None before mid after same w = ap (λ v. v.contents) w ∙ same
+written_files (Some f) before mid after same w = w.contents ∙ ap (option_map (write_bytes f.0 f.1)) same
+
+-- a write that failed after reads had been made failed since before them
+fails_before : (names : List ℕ → Type 0) (before mid after : ShelfView) (name bytes : List ℕ) → OnlyReads names before mid → FailsToWrite mid after name bytes → FailsToWrite before after name bytes
+fails_before names before mid after name bytes only f = record {
+  rose = let e = only.writes name in let h = f.rose in omega (arith, e, h);
+  unpromised = λ h. f.unpromised (only.writes_kept name (length bytes) h);
+  contents = subst (λ c. IsCutOff name bytes c after.contents) only.contents f.contents;
+}
+
+put_by : (text : List ℕ) (status result : ℕ) (before after : SinkView) → Prints text status before after result → IsPut text before after
+put_by text status result before after (delivery.whole taken counted r) = ended.whole taken counted
+put_by text status result before after (delivery.cut taken counted r unpromised) = ended.cut taken counted
+
+status_by : (text : List ℕ) (result : ℕ) (before after : SinkView) → Prints text not_written_status before after result → result ≡ not_written_status
+status_by text result before after (delivery.whole taken counted r) = r
+status_by text result before after (delivery.cut taken counted r unpromised) = r
+
+module _ (form : Option Form) (before after : World) (mid : ShelfView) (r : Report) (names : List ℕ → Type 0) (result : ℕ) (answers : Answers before.shelf.contents (asking_for form) (reported r)) (only : OnlyReads names before.shelf mid) (searched : IfSome r.recipes IsSearchable) where
+  ended_printed : IsWritten r.written mid after.shelf → Prints r.text (conclusion_status r.conclusion) before.sink after.sink result → Ended form before after result
+  ended_printed w (delivery.whole taken counted e) =
+      ended.spoke (reported r) (inl answers) e (record { taken = taken; counted = counted; contents = written_files r.written before.shelf mid after.shelf only.contents w }) searched
+  ended_printed w (delivery.cut taken counted e unpromised) =
+      ended.cut_off (reported r) (inl answers) e (record { taken = taken; counted = counted; contents = written_files r.written before.shelf mid after.shelf only.contents w }) unpromised
+
+  ended_delivered : (file : Option (List ℕ × List ℕ)) (text : List ℕ) (status : ℕ) → file ≡ r.written → text ≡ r.text → status ≡ conclusion_status r.conclusion
+      → Delivers file text status (world mid before.sink) after result → Ended form before after result
+  ended_delivered file text status f t s (delivery.printed w p) =
+      ended_printed (subst (λ x. IsWritten x mid after.shelf) f w)
+      (subst (λ x. Prints x (conclusion_status r.conclusion) before.sink after.sink result) t (subst (λ x. Prints text x before.sink after.sink result) s p))
+  ended_delivered file text status f t s (delivery.spoiled name bytes e fails changed p) =
+      ended.spoiled r name bytes answers (sym f ∙ e) (status_by _ result before.sink after.sink p) (fails_before names before.shelf mid after.shelf name bytes only fails) (put_by _ _ result before.sink after.sink p)
+
+-- a report that was delivered after the reads ends the call
+pub ended_report : (form : Option Form) (before after : World) (mid : ShelfView) (r : Report) (file : Option (List ℕ × List ℕ)) (text : List ℕ) (status result : ℕ)
+    → Reaches (asking_for form) before.shelf mid (reported r) → ReadsDue (asking_for form) before.shelf mid → file ≡ r.written → text ≡ r.text → status ≡ conclusion_status r.conclusion
+    → IfSome r.recipes IsSearchable → Delivers file text status (world mid before.sink) after result → Ended form before after result
+ended_report form before after mid r file text status result reached reads f t s searched d =
+    ended_delivered form before after mid r (IsDue before.shelf.contents (asking_for form)) result (reported_answers (asking_for form) before.shelf mid r reached) reads.only searched file text status f t s d
+
+-- ---- what a call changes
+
+pub writes_none : (name : List ℕ) (view : ShelfView) → OnlyWrites name 0 view view
+writes_none name view = record {
+  reads = λ n. refl;
+  handed = λ n. refl;
+  files = λ n other. refl;
+  grows = λ n. omega arith;
+  others = λ n other held. refl;
+  reads_kept = λ n h. h;
+  writes_kept = λ more h.
+      let zero_first : 0 + more ≡ more = omega arith in
+      let P : ℕ → Type 0 = λ k. IsTrue (view.writes_promised name k) in (subst P zero_first h, refl);
+}
+
+only_read : (names : List ℕ → Type 0) (by : Option (List ℕ)) (before after : ShelfView) → OnlyReads names before after → ChangesFiles names by before after
+only_read names None before after only = only
+only_read names (Some name) before after only = (after, only, (0, writes_none name after))
+
+put_grows : {text : List ℕ} {status result : ℕ} (before after : SinkView) → Prints text status before after result → before.faults ≤ after.faults
+put_grows before after (delivery.whole taken counted r) = omega (arith, counted)
+put_grows before after (delivery.cut taken counted r unpromised) = counted.0
+
+-- a call that read due files and printed something
+pub changes_by : {text : List ℕ} {status result : ℕ} (form : Option Form) (before after : World) → ReadsDue (asking_for form) before.shelf after.shelf → Prints text status before.sink after.sink result → Changes form before after
+changes_by form before after reads p = record {
+  only = only_read (IsDue before.shelf.contents (asking_for form)) (written_by form) before.shelf after.shelf reads.only;
+  taken = reads.taken;
+  puts = put_grows before.sink after.sink p;
+}
+
+-- one that printed nothing
+pub changes_nothing : (form : Option Form) (before after : ShelfView) (sink : SinkView) → ReadsDue (asking_for form) before after → Changes form (world before sink) (world after sink)
+changes_nothing form before after sink reads = record {
+  only = only_read (IsDue before.contents (asking_for form)) (written_by form) before after reads.only;
+  taken = reads.taken;
+  puts = omega arith;
+}
+
+written_after : (names : List ℕ → Type 0) (by : Option (List ℕ)) (name bytes : List ℕ) (before mid after : ShelfView) → Some name ≡ by → OnlyReads names before mid → OnlyWrites name (length bytes) mid after → ChangesFiles names by before after
+written_after names None name bytes before mid after e only w = cc
+written_after names (Some own) name bytes before mid after e only w = let same : name ≡ own = cc in (mid, only, (length bytes, subst (λ n. OnlyWrites n (length bytes) mid after) same w))
+
+module _ (form : Option Form) (before after : World) (mid : ShelfView) (reads : ReadsDue (asking_for form) before.shelf mid) where
+  changes_written : {text : List ℕ} {status result : ℕ} (name bytes : List ℕ) → Some name ≡ written_by form → OnlyWrites name (length bytes) mid after.shelf → Prints text status before.sink after.sink result → Changes form before after
+  changes_written name bytes own w p = record {
+    only = written_after (IsDue before.shelf.contents (asking_for form)) (written_by form) name bytes before.shelf mid after.shelf own reads.only w;
+    taken = λ n. subst (λ k. MayTake before.shelf.contents (asking_for form) n (k - before.shelf.handed n)) (sym (w.handed n)) (reads.taken n);
+    puts = put_grows before.sink after.sink p;
+  }
+
+  pub changes_report : (file : Option (List ℕ × List ℕ)) (text : List ℕ) (status result : ℕ) → ((name bytes : List ℕ) → file ≡ Some (name, bytes) → Some name ≡ written_by form)
+      → Delivers file text status (world mid before.sink) after result → Changes form before after
+  changes_report None text status result own (delivery.printed w p) =
+      changes_by form before after (subst (λ v. ReadsDue (asking_for form) before.shelf v) (sym w) reads) p
+  changes_report (Some f) text status result own (delivery.printed w p) = changes_written f.0 f.1 (own f.0 f.1 refl) w.only p
+  changes_report file text status result own (delivery.spoiled name bytes e fails changed p) = changes_written name bytes (own name bytes e) changed p
+
+-- ---- a file that could not be written
+
+pub spoiled_by : {T E : Type 0} (name bytes text : List ℕ) (status result : ℕ) (before after : World) (r : Result T E) (e : E) → r ≡ Err e → Writes name bytes r before.shelf after.shelf
+    → Prints (text_of (not_written name)) not_written_status before.sink after.sink result → Delivers (Some (name, bytes)) text status before after result
+spoiled_by name bytes text status result before after r e is w p =
+    let failed = subst (λ x. Writes name bytes x before.shelf after.shelf) is w in
+    delivery.spoiled name bytes refl
+    (record {
+      rose = failed.counted.1;
+      unpromised = λ h. let Q : ℕ → Type 0 = λ k. IsTrue (before.shelf.writes_promised name k) in false≢true (failed.promised 0 (subst Q (zero_more (length bytes)) h));
+      contents = failed.contents;
+    }) failed.only p

@@ -1,5 +1,5 @@
 -- What a command on a job may come to.
-use Rattle.std.proofs.Common.{◌≡◌, List, ℕ, [], ◌∷◌, Option, Result, Ok, Err, sym, subst, refl}
+use Rattle.std.proofs.Common.{List, ℕ, [], ◌∷◌, Option, Result, Ok, Err, sym, subst}
 use Rattle.job_file.specs.Job.{Values}
 use Rattle.job_file.specs.Resolve.{ResolvedJob}
 use Rattle.job_file.specs.declared.top.BatchRule.{BatchRule}
@@ -7,7 +7,7 @@ use Rattle.shelf_io.specs.Contents.{Contents}
 use Rattle.dye_run.specs.Answers.{Report}
 use Rattle.dye_run.specs.Asking.{Answers, Asking}
 use Rattle.dye_run.specs.Inputs.{◌>>=◌}
-use Rattle.dye_run.specs.Jobs.{JobTables, asks_each, asks_job, asks_job_tables, job_from, job_tables_from, light_files, resolved_from, unless_faulty_job}
+use Rattle.dye_run.specs.Jobs.{CertTables, JobTables, asks_cert, asks_cert_tables, asks_each, asks_job, asks_job_files, asks_job_tables, cert_tables_from, job_from, job_tables_from, light_files, resolved_from, resolved_then, unless_faulty_job}
 use Rattle.dye_run.specs.Outcome.{Fault, Outcome, outcome_of}
 use Rattle.dye_run.proofs.Proper.{IsProper, proper_then, refusal}
 
@@ -17,16 +17,33 @@ unfolding asks_each
 each_came contents [] next o w = ([], w)
 each_came contents (name ∷ names) next o w = let rest = each_came contents names (λ came. next (w.0 ∷ came)) o w.2 in (w.0 ∷ rest.0, rest.1)
 
-tables_proper : (contents : Option Contents) (j : Values) (judged : JobTables → Result Report Fault) (o : Outcome) → ((t : JobTables) → IsProper (outcome_of (judged t))) → Answers contents (asks_job_tables j judged) o → IsProper o
-tables_proper contents j judged o proper w =
-    let came = each_came contents (light_files j) _ o w.2 in
-    subst IsProper (sym came.1) (proper_then (job_tables_from j w.0 came.0) judged proper)
+-- the same of all files of a job
+pub files_came : (contents : Option Contents) (j : Values) (next : Option (List ℕ) → List (Option (List ℕ)) → Asking) (o : Outcome) → Answers contents (asks_job_files j next) o
+    → (curves : Option (List ℕ)) × (weights : List (Option (List ℕ))) × Answers contents (next curves weights) o
+files_came contents j next o w = let came = each_came contents (light_files j) (next w.0) o w.2 in (w.0, came.0, came.1)
 
-after_job : (contents : Option Contents) (job : Result Values Fault) (next : Values → Asking) (o : Outcome) → ((j : Values) → Answers contents (next j) o → IsProper o) → Answers contents (unless_faulty_job job next) o → IsProper o
+after_job : {by : Option (List ℕ)} (contents : Option Contents) (job : Result Values Fault) (next : Values → Asking) (o : Outcome) → ((j : Values) → Answers contents (next j) o → IsProper by o) → Answers contents (unless_faulty_job job next) o → IsProper by o
 after_job contents (Ok j) next o proper w = proper j w
 after_job contents (Err fault) next o proper w = refusal fault w
 
-pub job_proper : (contents : Option Contents) (rule : BatchRule) (name : List ℕ) (judged : ResolvedJob → Result Report Fault) (o : Outcome) → ((r : ResolvedJob) → IsProper (outcome_of (judged r))) → Answers contents (asks_job rule name judged) o → IsProper o
+tables_proper : {by : Option (List ℕ)} (contents : Option Contents) (j : Values) (judged : JobTables → Result Report Fault) (o : Outcome) → ((t : JobTables) → IsProper by (outcome_of (judged t))) → Answers contents (asks_job_tables j judged) o → IsProper by o
+tables_proper {by} contents j judged o proper w =
+    let came = files_came contents j _ o w in
+    subst (IsProper by) (sym came.2) (proper_then (job_tables_from j came.0 came.1) judged proper)
+
+pub job_proper : {by : Option (List ℕ)} (contents : Option Contents) (rule : BatchRule) (name : List ℕ) (judged : ResolvedJob → Result Report Fault) (o : Outcome) → ((r : ResolvedJob) → IsProper by (outcome_of (judged r))) → Answers contents (asks_job rule name judged) o → IsProper by o
 job_proper contents rule name judged o proper w =
     after_job contents (job_from rule name w.0) _ o
     (λ j. tables_proper contents j (λ t. resolved_from name j t >>= judged) o (λ t. proper_then (resolved_from name j t) judged proper)) w.2
+
+cert_tables_proper : {by : Option (List ℕ)} (contents : Option Contents) (j : Values) (cert : List ℕ) (judged : CertTables → Result Report Fault) (o : Outcome) → ((t : CertTables) → IsProper by (outcome_of (judged t))) → Answers contents (asks_cert_tables j cert judged) o → IsProper by o
+cert_tables_proper {by} contents j cert judged o proper w =
+    let came = files_came contents j _ o w in
+    let rest = came.2 in
+    subst (IsProper by) (sym rest.2) (proper_then (cert_tables_from j cert came.0 came.1 rest.0) judged proper)
+
+pub cert_proper : {by : Option (List ℕ)} (contents : Option Contents) (rule : BatchRule) (name cert : List ℕ) (judged : ResolvedJob → List ℕ → Result Report Fault) (o : Outcome) → ((r : ResolvedJob) (text : List ℕ) → IsProper by (outcome_of (judged r text)))
+    → Answers contents (asks_cert rule name cert judged) o → IsProper by o
+cert_proper contents rule name cert judged o proper w =
+    after_job contents (job_from rule name w.0) _ o
+    (λ j. cert_tables_proper contents j cert (resolved_then name j judged) o (λ t. proper_then (resolved_from name j t.tables) (λ r. judged r t.text) (λ r. proper r t.text))) w.2

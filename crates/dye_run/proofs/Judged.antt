@@ -1,5 +1,7 @@
 -- What was read and judged is the input of a command, and what is made of it its outcome.
-use Rattle.std.proofs.Common.{◌≡◌, ℕ, List, Option, Some, None, IfSome, Result, Ok, Err, refl, sym, ap, ◌∙◌, subst, inl, inr, arith}
+use Rattle.std.proofs.Common.{◌≡◌, ℕ, List, Option, Some, None, IfSome, IfOk, Result, Ok, Err, refl, sym, ap, ◌∙◌, subst, inl, inr, arith}
+use Rattle.job_file.specs.Resolve.{ResolvedJob}
+use Rattle.job_file.specs.ResolvedView.{resolved_view}
 use Rattle.shelf_io.specs.Changes.{OnlyReads}
 use Rattle.shelf_io.specs.View.{ShelfView}
 use Rattle.shade_report.specs.declared.refusal.Refusal.{Refusal}
@@ -10,6 +12,7 @@ use Rattle.dye_run.specs.Endings.{Reaches}
 use Rattle.dye_run.specs.Inputs.{◌>>=◌, Tables, asks_tables, table_limit}
 use Rattle.dye_run.specs.Judging.{Gives, IsInput, Stops, StopsAt, stop_outcome}
 use Rattle.dye_run.specs.Outcome.{Fault, Outcome, outcome_of, refusal_outcome, refused, unreadable}
+use Rattle.dye_run.specs.declared.cert_files.WithCert.{WithCert}
 use Rattle.dye_run.specs.declared.stop.Stop.{Stop}
 
 -- a step that refuses its input gives the outcome of the refusal
@@ -25,6 +28,15 @@ pub input_by : {X Y : Type 0} (asking : Asking) (judged : Y → Result spec.Repo
     → Gives view result step → IsInput asking (λ x. judged (view x)) before after result
 input_by asking judged view before after (Ok x) step comes gives = comes (outcome_of (judged (view x))) (sym (ap (λ s. outcome_of (s >>= judged)) gives))
 input_by asking judged view before after (Err why) step comes gives = refused_outcome asking judged before after (stop_outcome why) step comes gives
+
+-- the same of a job with the text of a certificate
+pub cert_input : (asking : Asking) (judged : ResolvedJob → List ℕ → Result spec.Report Fault) (before after : ShelfView) (result : Result WithCert Stop) (step : Result ResolvedJob Fault) (text : List ℕ)
+    → ((o : Outcome) → o ≡ outcome_of (step >>= (λ r. judged r text)) → Answers before.contents asking o)
+    → Gives (λ w. resolved_view w.resolved) result step → IfOk result (λ w. w.text.items ≡ text)
+    → IsInput asking (λ w. judged (resolved_view w.resolved) w.text.items) before after result
+cert_input asking judged before after (Ok w) step text comes gives same =
+    comes (outcome_of (judged (resolved_view w.resolved) w.text.items)) (ap (λ t. outcome_of (judged (resolved_view w.resolved) t)) same ∙ sym (ap (λ s. outcome_of (s >>= (λ r. judged r text))) gives))
+cert_input asking judged before after (Err why) step text comes gives same = refused_outcome asking (λ r. judged r text) before after (stop_outcome why) step comes gives
 
 unreadable_second : (curves weights : List ℕ) (before mid after : ShelfView) (came : Option (List ℕ)) (why : Option Outcome) → OnlyReads (λ n. n ≡ curves) before mid → Comes before.contents curves table_limit came
     → IfSome why (λ o. (o ≡ unreadable weights) × FailsToRead mid after weights)

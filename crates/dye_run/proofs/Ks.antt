@@ -17,7 +17,7 @@ ks_stands : (wavelength : ℕ) (curve : List ℕ) → All StandsFiner (ks_evalua
 ks_stands wavelength [] = λ k d h. absurd (omega arith)
 ks_stands wavelength (r ∷ curve) = All-cons StandsFiner (evaluation (decimal wavelength) (λ n. ks_at n r)) (ks_evaluations (wavelength + 10) curve) (stands (decimal wavelength) (λ n. ks_at n r) None (λ m some. ks_encloses base_unit m r)) (ks_stands (wavelength + 10) curve)
 
-pub ks_proper : (words : KsWords) (book : Book) → IsProper (outcome_of (ks_report words book))
+pub ks_proper : (words : KsWords) (book : Book) → IsProper None (outcome_of (ks_report words book))
 unfolding ks_report
 ks_proper words book = proper_then (curve_from words.curves words.column book) _ (λ curve. proper_report refl (ks_stands 400 curve))
 

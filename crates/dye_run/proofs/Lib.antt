@@ -1,8 +1,14 @@
+mod CertTrees
+mod CheckFacts
 mod Colours
 mod CoordinateLaws
+mod DemoFacts
 mod Diff
 mod DueReads
 mod Ends
+mod FilesKnown
+mod FormWords
+mod Headline
 mod JobOutcomes
 mod JobTables
 mod Judged
@@ -10,6 +16,8 @@ mod Ks
 mod Lab
 mod Onwards
 mod Proper
+mod SearchFacts
+mod SearchLaws
 mod ShowFacts
 mod ShowLaws
 mod Table

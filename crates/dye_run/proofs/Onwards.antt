@@ -1,21 +1,19 @@
 -- Due files come one after the other, and what a command goes on with is what it asked for from the first on.
-use Rattle.std.proofs.Common.{◌≡◌, ◌⊎◌, ◌+◌, ◌≤◌, ◌<◌, ℕ, suc, List, [], ◌∷◌, ◌++◌, length, drop, get_or, map, Option, Some, None, IfSome, IsTrue, Result, Ok, Err, refl, sym, ap, ◌∙◌, subst, inl, inr, arith, append_assoc, add-one}
+use Rattle.std.proofs.Common.{◌≡◌, ◌⊎◌, ◌+◌, ◌≤◌, ◌<◌, ℕ, List, [], ◌∷◌, ◌++◌, length, drop, get_or, Option, Some, None, IfSome, Ok, refl, sym, ap, ◌∙◌, subst, inl, inr, arith, append_assoc, add-one}
 use Rattle.std.proofs.Math.Seq.{drop-cons}
 use Rattle.std.proofs.lemmas.List.{append-nil, drop_all}
 use Rattle.shelf_io.specs.Changes.{HandsOut, OnlyReads}
 use Rattle.shelf_io.specs.Contents.{Contents}
 use Rattle.shelf_io.specs.View.{ShelfView}
-use Rattle.dye_run.specs.Asking.{Answers, Asking, IsDue, ReadsDue, asks}
+use Rattle.dye_run.specs.Asking.{Answers, Asking, IsDue, asks}
 use Rattle.dye_run.specs.Due.{Comes, FailsToRead}
 use Rattle.dye_run.specs.Endings.{Reaches}
-use Rattle.dye_run.specs.Inputs.{◌>>=◌, table_limit}
+use Rattle.dye_run.specs.Inputs.{table_limit}
 use Rattle.job_file.specs.Job.{Values}
-use Rattle.job_file.specs.Resolve.{ResolvedJob}
 use Rattle.job_file.specs.declared.top.BatchRule.{BatchRule}
-use Rattle.dye_run.specs.Answers.{Report}
-use Rattle.dye_run.specs.Jobs.{asks_each, asks_job, asks_job_tables, job_from, job_limit, resolved_from, unless_faulty_job}
+use Rattle.dye_run.specs.Jobs.{asks_accepted, asks_each, job_from, job_limit, unless_faulty_job}
 use Rattle.dye_run.specs.Judging.{GoesOn, Stops, StopsAt, StopsHaving, stop_outcome}
-use Rattle.dye_run.specs.Outcome.{Fault, Outcome, unreadable}
+use Rattle.dye_run.specs.Outcome.{Outcome, unreadable}
 use Rattle.dye_run.specs.declared.stop.Stop.{Stop}
 use Rattle.dye_run.proofs.DueReads.{first_read, then_read}
 
@@ -169,11 +167,10 @@ pub stops_owned : (asking : Asking) (before after : ShelfView) (why owned : Stop
 stops_owned asking before after why owned (inl same) s = let P : Option Outcome → Type 0 = λ w. IfSome w (λ o. Reaches asking before after o) in subst P (sym same) s
 stops_owned asking before after why owned (inr none) s = let P : Option Outcome → Type 0 = λ w. IfSome w (λ o. Reaches asking before after o) in subst P (sym none) tt
 
--- a job that came and was accepted by itself: its tables are asked for
-pub accepted : (rule : BatchRule) (name : List ℕ) (judged : ResolvedJob → Result Report Fault) (came : Option (List ℕ)) (j : Values) (before now : ShelfView) → job_from rule name came ≡ Ok j
+-- a job that came and was accepted by itself: what comes next is asked for
+pub accepted : (rule : BatchRule) (name : List ℕ) (next : Values → Asking) (came : Option (List ℕ)) (j : Values) (before now : ShelfView) → job_from rule name came ≡ Ok j
     → OnlyReads (λ n. n ≡ name) before now → HandsOut name (job_limit + 1) before now → Comes before.contents name job_limit came
-    → GoesOn (asks_job rule name judged) (asks_job_tables j (λ tables. resolved_from name j tables >>= judged)) before now
-accepted rule name judged came j before now is only handed comes =
-    let next : Option (List ℕ) → Asking = λ came. unless_faulty_job (job_from rule name came) (λ j. asks_job_tables j (λ tables. resolved_from name j tables >>= judged)) in
-    let onwards : GoesOn (asks name job_limit next) (next came) before now = goes_on name job_limit next came before now only handed comes in
-    subst (λ r. GoesOn (asks name job_limit next) (unless_faulty_job r (λ j. asks_job_tables j (λ tables. resolved_from name j tables >>= judged))) before now) is onwards
+    → GoesOn (asks_accepted rule name next) (next j) before now
+accepted rule name next came j before now is only handed comes =
+    let onwards : GoesOn (asks_accepted rule name next) (unless_faulty_job (job_from rule name came) next) before now = goes_on name job_limit (λ c. unless_faulty_job (job_from rule name c) next) came before now only handed comes in
+    subst (λ r. GoesOn (asks_accepted rule name next) (unless_faulty_job r next) before now) is onwards

@@ -1,5 +1,5 @@
 -- The report of `show`: its enclosures hold those of every finer scale, and its verdicts are true there.
-use Rattle.std.proofs.Common.{◌+◌, ◌*◌, ◌<◌, ◌≤◌, ℕ, List, [], ◌∷◌, Some, All, codes, decimal, ◌++◌, lit≤, refl, arith}
+use Rattle.std.proofs.Common.{◌+◌, ◌*◌, ◌<◌, ◌≤◌, ℕ, List, [], ◌∷◌, Some, None, All, lit≤, refl, arith}
 use Rattle.std.proofs.lemmas.List.Elements.{All-cons}
 use Rattle.cielab_bounds.specs.Laws.{EnclosesLab}
 use Rattle.cielab_bounds.proofs.LabLaw.{lab_encloses}
@@ -49,13 +49,13 @@ light_stands r recipe number light weights =
     (colour_encloses base_unit m weights (spectrum_of base_unit r recipe recipe) (spectrum_of (m * base_unit) r recipe recipe) some
     (any_mixture_encloses base_unit m curve (portions r.dyes recipe recipe) (lit≤ tt) some (one_recipe r.dyes recipe))))
 
-lights_stand : (r : ResolvedJob) (recipe : List ℕ) (number : ℕ) (lights : List JobLight) (tables : List WeightTable) → All StandsFiner (light_evaluations r recipe number lights tables)
+pub lights_stand : (r : ResolvedJob) (recipe : List ℕ) (number : ℕ) (lights : List JobLight) (tables : List WeightTable) → All StandsFiner (light_evaluations r recipe number lights tables)
 unfolding light_evaluations
 lights_stand r recipe number [] tables = no_more
 lights_stand r recipe number (light ∷ lights) [] = no_more
 lights_stand r recipe number (light ∷ lights) (weights ∷ tables) =
     All-cons StandsFiner (light_evaluation r recipe number light weights) (light_evaluations r recipe (number + 1) lights tables) (light_stands r recipe number light weights) (lights_stand r recipe (number + 1) lights tables)
 
-pub show_proper : (words : ShowWords) (r : ResolvedJob) → IsProper (outcome_of (show_report words r))
+pub show_proper : (words : ShowWords) (r : ResolvedJob) → IsProper None (outcome_of (show_report words r))
 unfolding show_report
 show_proper words r = proper_then (recipe_from r words.steps) _ (λ recipe. proper_report refl (lights_stand r recipe 1 r.job.light r.weights))

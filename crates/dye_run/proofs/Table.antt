@@ -1,45 +1,56 @@
 -- What each status tells, read off the outcome of a call.
-use Rattle.std.proofs.Common.{◌≡◌, ◌⊎◌, ℕ, List, length, Option, Some, None, Result, Ok, IsTrue, IsSomeAnd, IfSome, refl, sym, ap, ◌∙◌, subst, inl, inr}
+use Rattle.std.proofs.Common.{◌≡◌, ◌⊎◌, ℕ, List, length, Option, Some, None, Result, Ok, IsTrue, IsSomeAnd, IfSome, option_map, refl, sym, ap, ◌∙◌, subst, inl, inr}
 use Rattle.shelf_io.specs.Contents.{Contents}
+use Rattle.shelf_io.specs.Counts.{Rose}
+use Rattle.shelf_io.specs.View.{ShelfView}
 use Rattle.spectral_tables.specs.CurveFile.{curve_table_of}
 use Rattle.dye_run.specs.Answers.{Report}
+use Rattle.job_file.specs.declared.top.BatchRule.TheVariants.{With, Without}
 use Rattle.dye_run.specs.Asking.{Answers, Asking, answers, asks, held_or_missing, result_of}
+use Rattle.dye_run.specs.Check.{check_report, check_rule}
 use Rattle.dye_run.specs.Commands.{asking_for, asking_of}
+use Rattle.dye_run.specs.Demo.{demo_job}
 use Rattle.dye_run.specs.Due.{Comes, within}
-use Rattle.dye_run.specs.Endings.{Ended, IsUnreadable, Leaves, Reaches, World}
+use Rattle.dye_run.specs.Endings.{Ended, IsSearched, IsUnreadable, Leaves, Reaches, World}
 use Rattle.dye_run.specs.Endings as ended
-use Rattle.dye_run.specs.Forms.{Form, diff, ks, lab, show, xyz}
+use Rattle.dye_run.specs.Forms.{Form, check, correct, demo, diff, ks, lab, predict, show, written_by, xyz}
 use Rattle.dye_run.specs.Inputs.{Tables, asks_tables, table_from, tables_from}
 use Rattle.dye_run.specs.Lab.{lab_evaluations}
 use Rattle.dye_run.specs.Outcome as faults
-use Rattle.dye_run.specs.Outcome.{Fault, Outcome, conclusion_status, fault_status, job, no_column, outcome_of, status_of, steps, too_long, text_of, unreadable, usage, written_of}
+use Rattle.dye_run.specs.Outcome.{Fault, Outcome, conclusion_status, fault_status, grammar, invalid, job, no_column, outcome_of, reported, status_of, steps, too_long, text_of, unreadable, usage, written_of}
+use Rattle.dye_run.specs.Search.{search_report}
 use Rattle.dye_run.specs.Show.{show_report, show_rule}
 use Rattle.dye_run.specs.Statuses as table
 use Rattle.dye_run.specs.Statuses.{Kind, kind_of}
 use Rattle.dye_run.specs.Xyz.{xyz_evaluations}
 use Rattle.dye_run.specs.declared.statuses.Conclusion.{Conclusion}
-use Rattle.dye_run.specs.declared.statuses.Conclusion.TheVariants.{Judged, NoVerdict}
+use Rattle.dye_run.specs.declared.statuses.Conclusion.TheVariants.{BudgetEnded, Found, Judged, NoVerdict, NoneFound}
 use Rattle.metamerism.specs.declared.outcomes.Verdict.TheVariants.{Fail, Pass, Undecided}
 use Rattle.dye_run.proofs.CoordinateLaws.{coordinates_proper}
 use Rattle.dye_run.proofs.Diff.{diff_proper}
 use Rattle.dye_run.proofs.Ks.{ks_proper}
 use Rattle.dye_run.proofs.Lab.{lab_stands}
-use Rattle.dye_run.proofs.JobOutcomes.{job_proper}
-use Rattle.dye_run.proofs.Proper.{IsProper, proper_then, refusal, report}
+use Rattle.dye_run.proofs.JobOutcomes.{cert_proper, job_proper}
+use Rattle.dye_run.proofs.Proper.{IsProper, name_written, proper_then, refusal, report}
+use Rattle.dye_run.proofs.SearchLaws.{check_proper, demo_proper, search_proper}
 use Rattle.dye_run.proofs.ShowLaws.{show_proper}
 use Rattle.dye_run.proofs.Xyz.{xyz_stands}
 
 -- what a command over a file of curves and one of weights may come to
-tables_proper : (contents : Option Contents) (curves weights : List ℕ) (judged : Tables → Result Report Fault) (o : Outcome) → ((tables : Tables) → IsProper (outcome_of (judged tables))) → Answers contents (asks_tables curves weights judged) o → IsProper o
-tables_proper contents curves weights judged o proper w = subst IsProper (sym w.2.2) (proper_then (tables_from curves weights w.0 w.2.0) judged proper)
+tables_proper : (contents : Option Contents) (curves weights : List ℕ) (judged : Tables → Result Report Fault) (o : Outcome) → ((tables : Tables) → IsProper None (outcome_of (judged tables))) → Answers contents (asks_tables curves weights judged) o → IsProper None o
+tables_proper contents curves weights judged o proper w = subst (IsProper None) (sym w.2.2) (proper_then (tables_from curves weights w.0 w.2.0) judged proper)
 
 -- what each command may come to
-form_proper : (contents : Option Contents) (form : Form) (o : Outcome) → Answers contents (asking_of form) o → IsProper o
-form_proper contents (ks words) o w = subst IsProper (sym w.2) (proper_then (table_from curve_table_of words.curves w.0) _ (ks_proper words))
+pub form_proper : (contents : Option Contents) (form : Form) (o : Outcome) → Answers contents (asking_of form) o → IsProper (written_by (Some form)) o
+form_proper contents (ks words) o w = subst (IsProper None) (sym w.2) (proper_then (table_from curve_table_of words.curves w.0) _ (ks_proper words))
 form_proper contents (xyz words) o w = tables_proper contents words.curves words.weights _ o (coordinates_proper xyz_evaluations xyz_stands words) w
 form_proper contents (lab words) o w = tables_proper contents words.curves words.weights _ o (coordinates_proper lab_evaluations lab_stands words) w
 form_proper contents (diff words) o w = tables_proper contents words.curves words.weights _ o (diff_proper words) w
 form_proper contents (show words) o w = job_proper contents show_rule words.job (show_report words) o (show_proper words) w
+form_proper contents (predict words) o w = job_proper contents Without words.job (search_report words.cert) o (search_proper words.cert) w
+form_proper contents (correct words) o w = job_proper contents With words.job (search_report words.cert) o (search_proper words.cert) w
+form_proper contents (check words) o w = cert_proper contents check_rule words.job words.cert check_report o check_proper w
+form_proper contents (demo number) o w = subst (IsProper None) (sym w) (demo_proper number (demo_job number))
 
 -- where the files are known, the outcome is the one that they give
 same_came : (contents : Option Contents) (c : Contents) (name : List ℕ) (limit : ℕ) (came : Option (List ℕ)) → contents ≡ Some c → Comes contents name limit came → IsSomeAnd (c.file name) (λ bytes. came ≡ within limit bytes)
@@ -61,6 +72,9 @@ report_kind NoVerdict = refl
 report_kind (Judged Pass) = refl
 report_kind (Judged (Fail number)) = refl
 report_kind (Judged Undecided) = refl
+report_kind Found = refl
+report_kind NoneFound = refl
+report_kind BudgetEnded = refl
 
 -- so is that of a fault
 fault_kind : (fault : Fault) → kind_of (fault_status fault) ≡ table.refusal
@@ -69,31 +83,33 @@ fault_kind (faults.table name fault) = refl
 fault_kind (job name fault) = refl
 fault_kind (no_column name column) = refl
 fault_kind (steps limit) = refl
+fault_kind (grammar fault) = refl
+fault_kind (invalid line reason) = refl
 
 module _ (form : Option Form) (before after : World) (status : ℕ) where
   -- where this outcome was printed, the status tells what its kind means
   abbrev IsExplained : Outcome → Type 0
-  IsExplained o = status ≡ status_of o → Leaves before after (text_of o) (written_of o) → table.Tells form before after (kind_of status) status
+  IsExplained o = status ≡ status_of o → Leaves before after (text_of o) (written_of o) → IsSearched o → table.Tells form before after (kind_of status) status
 
   -- the kind of a status that is known
   by_kind : (k : Kind) (s : ℕ) → status ≡ s → kind_of s ≡ k → table.Tells form before after k status → table.Tells form before after (kind_of status) status
   by_kind k s e h t = subst (λ k. table.Tells form before after k status) (sym (ap kind_of e ∙ h)) t
 
-  explained_proper : (o : Outcome) → IsProper o → Answers before.shelf.contents (asking_for form) o → IsExplained o
+  explained_proper : {by : Option (List ℕ)} (o : Outcome) → IsProper by o → Answers before.shelf.contents (asking_for form) o → IsExplained o
   explained_proper o (report r e none finer) w =
-      subst (λ o. Answers before.shelf.contents (asking_for form) o → IsExplained o) (sym e) (λ w s l.
+      subst (λ o. Answers before.shelf.contents (asking_for form) o → IsExplained o) (sym e) (λ w s l searched.
       by_kind table.report (conclusion_status r.conclusion) s (report_kind r.conclusion)
-      (record { report = r; answers = w; status = sym s; leaves = l; finer = finer })) w
+      (record { report = r; answers = w; status = sym s; leaves = l; finer = finer; searched = searched })) w
   explained_proper o (refusal fault e) w =
-      subst (λ o. Answers before.shelf.contents (asking_for form) o → IsExplained o) (sym e) (λ w s l.
+      subst (λ o. Answers before.shelf.contents (asking_for form) o → IsExplained o) (sym e) (λ w s l searched.
       by_kind table.refusal (fault_status fault) s (fault_kind fault) (record { fault = fault; status = sym s; answers = w; leaves = l })) w
 
   explained_unreadable : (o : Outcome) (name : List ℕ) → IsUnreadable (asking_for form) before.shelf after.shelf name → o ≡ unreadable name → IsExplained o
   explained_unreadable o name u e =
-      subst IsExplained (sym e) (λ s l. by_kind table.unreadable 2 s refl (record { name = name; fault = u; leaves = l }))
+      subst IsExplained (sym e) (λ s l searched. by_kind table.unreadable 2 s refl (record { name = name; fault = u; leaves = l }))
 
   explained_usage : (o : Outcome) → form ≡ None → o ≡ usage → IsExplained o
-  explained_usage o n e = subst IsExplained (sym e) (λ s l. by_kind table.usage 1 s refl (record { no_form = n; leaves = l }))
+  explained_usage o n e = subst IsExplained (sym e) (λ s l searched. by_kind table.usage 1 s refl (record { no_form = n; leaves = l }))
 
 explained : (form : Option Form) (before after : World) (status : ℕ) (o : Outcome) → Reaches (asking_for form) before.shelf after.shelf o → IsExplained form before after status o
 explained None before after status o (inl w) = explained_usage None before after status o refl w
@@ -102,17 +118,20 @@ explained (Some f) before after status o (inl w) = explained_proper (Some f) bef
 explained (Some f) before after status o (inr u) = explained_unreadable (Some f) before after status o u.0 u.1 u.2
 
 tells_ended : (form : Option Form) (before after : World) (status : ℕ) → Ended form before after status → table.Tells form before after (kind_of status) status
-tells_ended form before after status (ended.spoke o reached s l) = explained form before after status o reached s l
+tells_ended form before after status (ended.spoke o reached s l searched) = explained form before after status o reached s l searched
 tells_ended form before after status (ended.cut_off o reached s l unpromised) =
-    by_kind form before after status table.not_written 4 s refl (record { outcome = o; reached = reached; leaves = l })
+    by_kind form before after status table.not_written 4 s refl (table.put_failed o reached l)
+tells_ended form before after status (ended.spoiled r name bytes w e s fails put) =
+    by_kind form before after status table.not_written 4 s refl (table.file_failed r name bytes w e fails put)
 tells_ended form before after status (ended.out_of_memory s f l) =
     by_kind form before after status table.out_of_memory 10 s refl (record { has_form = f; leaves = l })
 
 -- where words have no form, the usage text was to be printed
 no_form_ended : (form : Option Form) (before after : World) (status : ℕ) → Ended form before after status → form ≡ None → (status ≡ 1) ⊎ (status ≡ 4)
-no_form_ended None before after status (ended.spoke o (inl w) s l) n = inl (s ∙ ap status_of w)
-no_form_ended None before after status (ended.spoke o (inr u) s l) n = absurd u.1.due
+no_form_ended None before after status (ended.spoke o (inl w) s l searched) n = inl (s ∙ ap status_of w)
+no_form_ended None before after status (ended.spoke o (inr u) s l searched) n = absurd u.1.due
 no_form_ended None before after status (ended.cut_off o reached s l unpromised) n = inr s
+no_form_ended None before after status (ended.spoiled r name bytes w e s fails put) n = cc
 no_form_ended None before after status (ended.out_of_memory s f l) n = cc
 no_form_ended (Some f) before after status e n = cc
 
@@ -123,17 +142,43 @@ module _ (form : Option Form) (before after : World) (status : ℕ) where
   printed : (o p : Outcome) → p ≡ o → status ≡ status_of p → Leaves before after (text_of p) (written_of p) → table.IsSaid form before after o status
   printed o p e s l = inr (s ∙ ap status_of e, subst (λ o. Leaves before after (text_of o) (written_of o)) e l)
 
+  -- the file that could not be written is that of the outcome
+  same_file : (o : Outcome) (r : Report) (file : List ℕ × List ℕ) (P : List ℕ × List ℕ → Type 0) → reported r ≡ o → r.written ≡ Some file → IfSome (written_of o) P → P file
+  same_file o r file P e w h =
+      let Q : Option (List ℕ × List ℕ) → Type 0 = λ f. IfSome f P in
+      subst Q w (subst (λ o. IfSome (written_of o) P) (sym e) h)
+
   pub complete_ended : Ended form before after status → table.IsComplete form before after status
-  complete_ended (ended.spoke p (inl w) s l) c o e r reads puts = printed o p (only_outcome before.shelf.contents c (asking_for form) o p e r w) s l
-  complete_ended (ended.spoke p (inr u) s l) c o e r reads puts = absurd (reads u.0 u.1.due u.1.failed.rose)
-  complete_ended (ended.cut_off p due s l q) c o e r reads puts = absurd (puts l.counted.1)
-  complete_ended (ended.out_of_memory s f l) c o e r reads puts = inl s
+  complete_ended (ended.spoke p (inl w) s l searched) c o e r reads writes puts = printed o p (only_outcome before.shelf.contents c (asking_for form) o p e r w) s l
+  complete_ended (ended.spoke p (inr u) s l searched) c o e r reads writes puts = absurd (reads u.0 u.1.due u.1.failed.rose)
+  complete_ended (ended.cut_off p due s l q) c o e r reads writes puts = absurd (puts l.counted.1)
+  complete_ended (ended.spoiled mine name bytes w is s fails put) c o e r reads writes puts =
+      absurd (same_file o mine (name, bytes) (λ file. Rose (before.shelf.write_faults file.0) (after.shelf.write_faults file.0) → ⊥)
+      (only_outcome before.shelf.contents c (asking_for form) o (reported mine) e r w) is writes fails.rose)
+  complete_ended (ended.out_of_memory s f l) c o e r reads writes puts = inl s
 
   pub reliable_ended : Ended form before after status → table.IsReliable form before after status
-  reliable_ended (ended.spoke p (inl w) s l) c o e r reads puts =
+  reliable_ended (ended.spoke p (inl w) s l searched) c o e r reads writes puts =
       (printed o p (only_outcome before.shelf.contents c (asking_for form) o p e r w) s l, l.counted)
-  reliable_ended (ended.spoke p (inr u) s l) c o e r reads puts = absurd (u.1.failed.unpromised (reads u.0 u.1.due))
-  reliable_ended (ended.cut_off p (inl w) s l unpromised) c o e r reads puts =
+  reliable_ended (ended.spoke p (inr u) s l searched) c o e r reads writes puts = absurd (u.1.failed.unpromised (reads u.0 u.1.due))
+  reliable_ended (ended.cut_off p (inl w) s l unpromised) c o e r reads writes puts =
       absurd (unpromised (subst (λ o. IsTrue (before.sink.puts_promised (length (text_of o)))) (sym (only_outcome before.shelf.contents c (asking_for form) o p e r w)) puts))
-  reliable_ended (ended.cut_off p (inr u) s l unpromised) c o e r reads puts = absurd (u.1.failed.unpromised (reads u.0 u.1.due))
-  reliable_ended (ended.out_of_memory s f l) c o e r reads puts = (inl s, l.counted)
+  reliable_ended (ended.cut_off p (inr u) s l unpromised) c o e r reads writes puts = absurd (u.1.failed.unpromised (reads u.0 u.1.due))
+  reliable_ended (ended.spoiled mine name bytes w is s fails put) c o e r reads writes puts =
+      absurd (fails.unpromised (same_file o mine (name, bytes) (λ file. IsTrue (before.shelf.writes_promised file.0 (length file.1)))
+      (only_outcome before.shelf.contents c (asking_for form) o (reported mine) e r w) is writes))
+  reliable_ended (ended.out_of_memory s f l) c o e r reads writes puts = (inl s, l.counted)
+
+-- the file of a report is that of the command
+own_of : {by : Option (List ℕ)} (o : Outcome) → IsProper by o → (r : Report) → o ≡ reported r → name_written r ≡ by
+own_of o (report p e own finer) r is = let same : p ≡ r = cc in ap name_written (sym same) ∙ own
+own_of o (refusal fault e) r is = cc
+
+pub writes_own : (form : Option Form) (contents : Option Contents) (r : Report) → Answers contents (asking_for form) (reported r) → name_written r ≡ written_by form
+writes_own None contents r w = cc
+writes_own (Some f) contents r w = own_of (reported r) (form_proper contents f (reported r) w) r refl
+
+pub writes_reached : (form : Option Form) (before after : ShelfView) (r : Report) (file : Option (List ℕ × List ℕ)) → Reaches (asking_for form) before after (reported r) → file ≡ r.written
+    → (name bytes : List ℕ) → file ≡ Some (name, bytes) → Some name ≡ written_by form
+writes_reached form before after r file (inl w) f name bytes e = ap (option_map (λ x. x.0)) (sym e ∙ f) ∙ writes_own form before.contents r w
+writes_reached form before after r file (inr u) f name bytes e = let is = u.2 in cc

@@ -3,6 +3,7 @@ use Rattle.std.specs.Prelude.{◌≡◌, ℕ, ◌*◌, ◌^◌, ◌<◌, List, [
 use Rattle.interval_specs.specs.Ends.{Ends}
 use Rattle.interval_specs.specs.Encloses.{Encloses}
 use Rattle.dec_text.specs.FixedPoint.{pair_text}
+use Rattle.job_file.specs.Resolve.{ResolvedJob}
 use Rattle.metamerism.specs.Verdicts.{light_verdict}
 use Rattle.metamerism.specs.declared.outcomes.Verdict.TheVariants.{Fail, Pass}
 use Rattle.metamerism.specs.declared.outcomes.Verdict.{Verdict}
@@ -50,15 +51,16 @@ line_of e = line e.label (e.at base_unit)
 abbrev pub lines_of : List Evaluation → List ℕ
 lines_of evaluations = flat_map line_of evaluations
 
--- a report: how it ends, its text, the evaluations that the text shows, and the name and the bytes of the file that is
--- written, where the command writes one
+-- a report: how it ends, its text, the evaluations that the text shows, the name and the bytes of the file that is written,
+-- where the command writes one, and the job whose recipes were searched or checked, where some were
 pub record Report : Type 0 where
   pub conclusion : Conclusion
   pub text : List ℕ
   pub evaluations : List Evaluation
   pub written : Option (List ℕ × List ℕ)
+  pub recipes : Option ResolvedJob
 
 -- the report that shows these evaluations and nothing else
 abbrev pub plain_report : List Evaluation → Report
 plain_report evaluations =
-    record { conclusion = NoVerdict; text = lines_of evaluations; evaluations = evaluations; written = None }
+    record { conclusion = NoVerdict; text = lines_of evaluations; evaluations = evaluations; written = None; recipes = None }

@@ -65,6 +65,7 @@ difference_report (Some t) e =
       text = line_of e ++ verdict_name (verdict_on e t base_unit) ++ 10 ∷ [];
       evaluations = e ∷ [];
       written = None;
+      recipes = None;
     }
 
 -- the report, of the curves and the weights of the files: a missing column is that of the standard before that of the

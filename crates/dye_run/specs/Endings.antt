@@ -1,16 +1,21 @@
 -- How a call of the program ends.
-use Rattle.std.specs.Prelude.{◌≡◌, ◌⊎◌, ◌-◌, ℕ, ◌≤◌, List, [], Option, Some, None, IsSome, IsTrue, length, option_map, true}
+use Rattle.std.specs.Prelude.{◌≡◌, ◌⊎◌, ◌-◌, ℕ, ◌≤◌, List, [], Option, Some, None, IfSome, IsSome, IsTrue, length, option_map, true}
+use Rattle.box_cert.specs.Writing.{IsCutOff}
+use Rattle.box_specs.specs.Landscape.{IsLawful}
+use Rattle.job_file.specs.Resolve.{ResolvedJob}
+use Rattle.recipe_judge.specs.Recipes.{recipe_land}
 use Rattle.std.specs.Io.KnownBytes.{append_known}
-use Rattle.shelf_io.specs.Changes.{OnlyChanges}
+use Rattle.shelf_io.specs.Changes.{OnlyReads, OnlyWrites}
 use Rattle.shelf_io.specs.Contents.{Contents, write_bytes}
-use Rattle.shelf_io.specs.Counts.{CountsFailure}
+use Rattle.shelf_io.specs.Counts.{CountsFailure, Rose}
 use Rattle.shelf_io.specs.Taking.{AddsPrefix}
 use Rattle.shelf_io.specs.View.{ShelfView, SinkView}
+use Rattle.dye_run.specs.Answers.{Report}
 use Rattle.dye_run.specs.Asking.{Answers, Asking, IsDue, MayTake}
 use Rattle.dye_run.specs.Commands.{asking_for}
 use Rattle.dye_run.specs.Due.{FailsToRead}
-use Rattle.dye_run.specs.Forms.{Form}
-use Rattle.dye_run.specs.Outcome.{Outcome, status_of, text_of, unreadable, written_of}
+use Rattle.dye_run.specs.Forms.{Form, written_by}
+use Rattle.dye_run.specs.Outcome.{Outcome, not_written, refused, reported, status_of, text_of, unreadable, usage, written_of}
 
 -- what is known of the shelf and of the sink at one moment
 pub record World : Type 0 where
@@ -38,6 +43,31 @@ pub record LeavesPrefix (before after : World) (text : List ℕ) (written : Opti
   pub counted : CountsFailure true before.sink.faults after.sink.faults
   pub contents : after.shelf.contents ≡ with_written written before.shelf.contents
 
+-- a job whose recipes can be searched: they are a lawful landscape, and the budget is at most the greatest one
+pub record IsSearchable (r : ResolvedJob) : Type 0 where
+  pub lawful : IsLawful (recipe_land r)
+  pub budget : r.job.head.budget ≤ 1000000
+
+-- the recipes of which an outcome speaks, where it does, are those of such a job
+abbrev pub IsSearched : Outcome → Type 0
+IsSearched usage = Unit {0}
+IsSearched (unreadable name) = Unit {0}
+IsSearched (refused fault) = Unit {0}
+IsSearched (reported report) = IfSome report.recipes IsSearchable
+IsSearched (not_written name) = Unit {0}
+
+-- the sink took this text alone and counted no failure; or a put failed, and it took a prefix of the text alone
+pub data IsPut (text : List ℕ) (before after : SinkView) : Type 0 where
+  whole : after.taken ≡ append_known before.taken text → after.faults ≡ before.faults → IsPut text before after
+  cut : AddsPrefix before.taken after.taken text → CountsFailure true before.faults after.faults → IsPut text before after
+
+-- a write of the name failed, and it had not been promised that these bytes can be written: nothing changed, or the name
+-- holds a prefix of them
+pub record FailsToWrite (before after : ShelfView) (name bytes : List ℕ) : Type 0 where
+  pub rose : Rose (before.write_faults name) (after.write_faults name)
+  pub unpromised : IsTrue (before.writes_promised name (length bytes)) → ⊥
+  pub contents : IsCutOff name bytes before.contents after.contents
+
 -- the file of this name was due and could not be read
 pub record IsUnreadable (asking : Asking) (before after : ShelfView) (name : List ℕ) : Type 0 where
   pub due : IsDue before.contents asking name
@@ -56,13 +86,15 @@ not_written_status = 4
 abbrev pub out_of_memory_status : ℕ
 out_of_memory_status = 10
 
--- How a call ends: it printed the whole outcome; or a put failed, which was not promised to succeed, and the sink took a
--- prefix of that; or memory ran out for a command, and nothing was printed
+-- How a call ends: it wrote its file, if it has one, and printed the whole outcome; or a put failed, which was not promised
+-- to succeed, and the sink took a prefix of that; or the file could not be written, and this alone was to be printed; or
+-- memory ran out for a command, and nothing was written or printed
 pub data Ended (form : Option Form) (before after : World) (status : ℕ) : Type 0 where
   spoke : (o : Outcome)
       → Reaches (asking_for form) before.shelf after.shelf o
       → status ≡ status_of o
       → Leaves before after (text_of o) (written_of o)
+      → IsSearched o
       → Ended form before after status
   cut_off : (o : Outcome)
       → Reaches (asking_for form) before.shelf after.shelf o
@@ -70,18 +102,26 @@ pub data Ended (form : Option Form) (before after : World) (status : ℕ) : Type
       → LeavesPrefix before after (text_of o) (written_of o)
       → (IsTrue (before.sink.puts_promised (length (text_of o))) → ⊥)
       → Ended form before after status
+  spoiled : (r : Report) (name bytes : List ℕ)
+      → Answers before.shelf.contents (asking_for form) (reported r)
+      → r.written ≡ Some (name, bytes)
+      → status ≡ not_written_status
+      → FailsToWrite before.shelf after.shelf name bytes
+      → IsPut (text_of (not_written name)) before.sink after.sink
+      → Ended form before after status
   out_of_memory : status ≡ out_of_memory_status
       → IsSome form
       → Leaves before after [] None
       → Ended form before after status
 
--- the name that a command may write, and how many bytes at most: none of today's does
-abbrev pub written_by : Option Form → Option (List ℕ × ℕ)
-written_by form = None
+-- due files were read, and then, where the command writes a file, the one of that name alone was written
+abbrev pub ChangesFiles : (names : List ℕ → Type 0) → Option (List ℕ) → (before after : ShelfView) → Type 0
+ChangesFiles names None before after = OnlyReads names before after
+ChangesFiles names (Some name) before after = (mid : ShelfView) × OnlyReads names before mid × ((size : ℕ) × OnlyWrites name size mid after)
 
 -- What a call changes: the shelf by reads of due files, of each no more than its limit and one byte, and by writes of the
 -- name that the command writes; and no count of the sink falls
 pub record Changes (form : Option Form) (before after : World) : Type 0 where
-  pub only : OnlyChanges (IsDue before.shelf.contents (asking_for form)) (written_by form) before.shelf after.shelf
+  pub only : ChangesFiles (IsDue before.shelf.contents (asking_for form)) (written_by form) before.shelf after.shelf
   pub taken : (n : List ℕ) → MayTake before.shelf.contents (asking_for form) n (after.shelf.handed n - before.shelf.handed n)
   pub puts : before.sink.faults ≤ after.sink.faults

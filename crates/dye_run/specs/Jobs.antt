@@ -56,11 +56,13 @@ unfoldable pub asks_each : List (List ℕ) → (List (Option (List ℕ)) → Ask
 asks_each [] next = next []
 asks_each (name ∷ names) next = asks name table_limit (λ first. asks_each names (λ came. next (first ∷ came)))
 
--- the curves of a job are due and then its weights, and all are judged when they have come
+-- the curves of a job are due and then its weights, and what comes next may look at what came of them
+abbrev pub asks_job_files : Values → (Option (List ℕ) → List (Option (List ℕ)) → Asking) → Asking
+asks_job_files j next = asks j.head.curves table_limit (λ curves_came. asks_each (light_files j) (next curves_came))
+
+-- all of them are judged when they have come
 abbrev pub asks_job_tables : Values → (JobTables → Result Report Fault) → Asking
-asks_job_tables j judged =
-    asks j.head.curves table_limit (λ curves_came. asks_each (light_files j) (λ weights_came.
-    answers (outcome_of (job_tables_from j curves_came weights_came >>= judged))))
+asks_job_tables j judged = asks_job_files j (λ curves_came weights_came. answers (outcome_of (job_tables_from j curves_came weights_came >>= judged)))
 
 -- what a job comes to over its tables
 abbrev pub resolved_from : List ℕ → Values → JobTables → Result ResolvedJob Fault
@@ -70,9 +72,44 @@ abbrev pub unless_faulty_job : Result Values Fault → (Values → Asking) → A
 unless_faulty_job (Ok j) next = next j
 unless_faulty_job (Err fault) next = answers (refused fault)
 
--- A job is due, and judged by itself when it has come; where it is accepted, its tables are due, and what it comes to over
--- them is judged
+-- a job is due, and judged by itself when it has come; what comes next is asked for where it is accepted
+abbrev pub asks_accepted : BatchRule → List ℕ → (Values → Asking) → Asking
+asks_accepted rule name next = asks name job_limit (λ came. unless_faulty_job (job_from rule name came) next)
+
+-- a job is due and then its tables, and what it comes to over them is judged
 abbrev pub asks_job : BatchRule → List ℕ → (ResolvedJob → Result Report Fault) → Asking
-asks_job rule name judged =
-    asks name job_limit (λ came. unless_faulty_job (job_from rule name came) (λ j.
-    asks_job_tables j (λ tables. resolved_from name j tables >>= judged)))
+asks_job rule name judged = asks_accepted rule name (λ j. asks_job_tables j (λ tables. resolved_from name j tables >>= judged))
+
+-- a file of a certificate has at most so many bytes
+abbrev pub cert_limit : ℕ
+cert_limit = 64000000
+
+-- the tables of a job, and the text of a certificate
+pub record CertTables : Type 0 where
+  pub tables : JobTables
+  pub text : List ℕ
+
+abbrev pub unless_too_long : List ℕ → Option (List ℕ) → Result (List ℕ) Fault
+unless_too_long name None = Err (too_long name)
+unless_too_long name (Some bytes) = Ok bytes
+
+-- both, from what came of their reads: a fault of a table before a certificate that is too long
+unfoldable pub cert_tables_from : Values → List ℕ → Option (List ℕ) → List (Option (List ℕ)) → Option (List ℕ) → Result CertTables Fault
+cert_tables_from j cert curves_came weights_came cert_came = do
+  tables ← job_tables_from j curves_came weights_came
+  text ← unless_too_long cert cert_came
+  Ok (record { tables = tables; text = text })
+
+-- the tables of a job are due and then a certificate, and all are judged when they have come
+abbrev pub asks_cert_tables : Values → List ℕ → (CertTables → Result Report Fault) → Asking
+asks_cert_tables j cert judged =
+    asks_job_files j (λ curves_came weights_came. asks cert cert_limit (λ cert_came.
+    answers (outcome_of (cert_tables_from j cert curves_came weights_came cert_came >>= judged))))
+
+-- what a job comes to over its tables, with the text of a certificate
+abbrev pub resolved_then : List ℕ → Values → (ResolvedJob → List ℕ → Result Report Fault) → CertTables → Result Report Fault
+resolved_then name j judged t = resolved_from name j t.tables >>= (λ r. judged r t.text)
+
+-- a job is due, then its tables and then a certificate, and what the job comes to is judged with the certificate
+abbrev pub asks_cert : BatchRule → (name cert : List ℕ) → (ResolvedJob → List ℕ → Result Report Fault) → Asking
+asks_cert rule name cert judged = asks_accepted rule name (λ j. asks_cert_tables j cert (resolved_then name j judged))

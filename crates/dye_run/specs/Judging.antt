@@ -1,12 +1,14 @@
 -- What the steps of a command come to, beside their definitions.
-use Rattle.std.specs.Prelude.{◌≡◌, ◌≤◌, ℕ, List, Option, Some, None, IfSome, IsTrue, Result, Ok, Err}
+use Rattle.std.specs.Prelude.{◌≡◌, ◌≤◌, ℕ, List, Option, Some, None, IfSome, IsTrue, Result, Ok, Err, option_map}
+use Rattle.box_cert.specs.Spelling.{cert_text, content}
 use Rattle.shelf_io.specs.View.{ShelfView}
 use Rattle.dye_run.specs.Answers as spec
 use Rattle.dye_run.specs.Asking.{Answers, Asking, IsDue, ReadsDue}
 use Rattle.dye_run.specs.Due.{FailsToRead}
-use Rattle.dye_run.specs.Endings.{Reaches}
-use Rattle.dye_run.specs.Outcome.{Fault, Outcome, job, no_column, outcome_of, refusal_outcome, refused, reported, steps, table, too_long, unreadable, usage}
+use Rattle.dye_run.specs.Endings.{IsSearchable, Reaches}
+use Rattle.dye_run.specs.Outcome.{Fault, Outcome, grammar, invalid, job, no_column, not_written, outcome_of, refusal_outcome, refused, reported, steps, table, too_long, unreadable, usage}
 use Rattle.dye_run.specs.declared.report.Report.{Report}
+use Rattle.dye_run.specs.declared.report.Written.{Written}
 use Rattle.dye_run.specs.declared.stop.OwnedRefusal.{OwnedRefusal}
 use Rattle.dye_run.specs.declared.stop.OwnedRefusal.TheVariants as owned
 use Rattle.dye_run.specs.declared.stop.Stop.{Stop}
@@ -21,6 +23,9 @@ owned_outcome (owned.Table name fault) = refused (table name fault)
 owned_outcome (owned.Job name fault) = refused (job name fault)
 owned_outcome (owned.NoColumn name column) = refused (no_column name column)
 owned_outcome (owned.Steps limit) = refused (steps limit)
+owned_outcome (owned.CertGrammar fault) = refused (grammar fault)
+owned_outcome (owned.CertWrong line reason) = refused (invalid line reason)
+owned_outcome (owned.NotWritten name) = not_written name
 
 -- what the command comes to, unless memory ran out
 abbrev pub stop_outcome : Stop → Option Outcome
@@ -37,11 +42,17 @@ abbrev pub Gives : {X Y : Type 0} → (X → Y) → Result X Stop → Result Y F
 Gives view (Ok x) step = step ≡ Ok (view x)
 Gives view (Err why) step = Refuses why step
 
--- the report has the conclusion and the text of its definition, which writes no file
+-- the name and the bytes of the file that a report writes
+abbrev pub file_view : Option Written → Option (List ℕ × List ℕ)
+file_view written = option_map (λ file. (file.name.text.now, cert_text (content file.cert))) written
+
+-- the report has the conclusion, the text and the file of its definition, and the recipes of which it speaks, where it does,
+-- can be searched
 pub record Matches (report : Report) (defined : spec.Report) : Type 0 where
   pub conclusion : report.conclusion ≡ defined.conclusion
   pub text : report.text.items ≡ defined.text
-  pub written : defined.written ≡ None
+  pub written : file_view report.written ≡ defined.written
+  pub searched : IfSome defined.recipes IsSearchable
 
 -- the same, of a step that reports
 abbrev pub Reports : Result Report Stop → Result spec.Report Fault → Type 0

@@ -1,6 +1,5 @@
 -- `show`: the report of one recipe of a job.
-use Rattle.std.specs.Prelude.{ℕ, ◌+◌, ◌&&◌, ◌==◌, not, Bool, List, [], ◌∷◌, ◌++◌, codes, decimal, Option, Some, None, Result, Ok, Err, if◌then◌else◌}
-use Rattle.std.specs.List.{ends_with}
+use Rattle.std.specs.Prelude.{ℕ, ◌+◌, List, [], ◌∷◌, ◌++◌, codes, decimal, Option, Some, None, Result, Ok, Err, if◌then◌else◌}
 use Rattle.interval_specs.specs.Ends.{Ends}
 use Rattle.job_file.specs.declared.light.JobLight.{JobLight}
 use Rattle.job_file.specs.declared.top.BatchRule.{BatchRule}
@@ -19,16 +18,12 @@ use Rattle.spectral_tables.specs.WeightTable.{WeightTable}
 use Rattle.dye_run.specs.Answers.{Evaluation, Report, base_unit}
 use Rattle.dye_run.specs.Inputs.{◌>>=◌}
 use Rattle.dye_run.specs.Outcome.{Fault, steps}
-use Rattle.dye_run.specs.Words.{is_file_word}
+use Rattle.dye_run.specs.Words.{is_job_word}
 use Rattle.dye_run.specs.declared.statuses.Conclusion.TheVariants.{Judged}
 
 pub record ShowWords : Type 0 where
   pub job : List ℕ
   pub steps : List ℕ
-
--- a word that names a job names a file, and does not end with `.cert`
-abbrev pub is_job_word : List ℕ → Bool
-is_job_word word = is_file_word word && not (ends_with ◌==◌ word (codes ".cert"))
 
 -- JOB STEPS
 abbrev pub show_words : List (List ℕ) → Option ShowWords
@@ -94,6 +89,7 @@ recipe_report r recipe = record {
   text = show_text r.job (recipe_values r recipe);
   evaluations = light_evaluations r recipe 1 r.job.light r.weights;
   written = None;
+  recipes = None;
 }
 
 -- the report of the recipe that a word spells

@@ -1,13 +1,14 @@
 -- What each status of the program means for the call.
-use Rattle.std.specs.Prelude.{◌≡◌, ◌⊎◌, ◌==◌, ◌||◌, ℕ, List, [], Option, Some, None, All, IsSome, IsTrue, Ok, length, if◌then◌else◌}
+use Rattle.std.specs.Prelude.{◌≡◌, ◌⊎◌, ◌==◌, ◌||◌, ℕ, List, [], Option, Some, None, All, IfSome, IsSome, IsTrue, Ok, length, if◌then◌else◌}
 use Rattle.shade_report.specs.Refusals.{unreadable_text, usage_text}
 use Rattle.shelf_io.specs.Contents.{Contents}
 use Rattle.shelf_io.specs.Counts.{Rose}
 use Rattle.dye_run.specs.Answers.{Report, StandsFiner}
 use Rattle.dye_run.specs.Asking.{Answers, IsDue, result_of}
 use Rattle.dye_run.specs.Commands.{asking_for}
-use Rattle.dye_run.specs.Endings.{IsUnreadable, Leaves, LeavesPrefix, Reaches, World, out_of_memory_status}
+use Rattle.dye_run.specs.Endings.{FailsToWrite, IsPut, IsSearchable, IsUnreadable, Leaves, LeavesPrefix, Reaches, World, out_of_memory_status}
 use Rattle.dye_run.specs.Forms.{Form}
+use Rattle.dye_run.specs.Outcome as outcome
 use Rattle.dye_run.specs.Outcome.{Fault, Outcome, conclusion_status, fault_status, refused, reported, status_of, text_of, written_of}
 
 -- what a status may tell of
@@ -20,13 +21,13 @@ pub data Kind : Type 0 where
   out_of_memory : Kind
   nothing : Kind
 
--- 0, 8 and 9 are of a report, 3 and 11 of a refusal, and the others each of one kind
+-- 0, 5, 6, 8 and 9 are of a report, 3, 7 and 11 of a refusal, and the others each of one kind
 abbrev pub kind_of : ℕ → Kind
 kind_of status =
-    if (status == 0) || (status == 8) || (status == 9) then report
+    if (status == 0) || (status == 5) || (status == 6) || (status == 8) || (status == 9) then report
     else (if status == 1 then usage
     else (if status == 2 then unreadable
-    else (if (status == 3) || (status == 11) then refusal
+    else (if (status == 3) || (status == 7) || (status == 11) then refusal
     else (if status == 4 then not_written
     else (if status == 10 then out_of_memory
     else nothing)))))
@@ -39,6 +40,7 @@ module _ (form : Option Form) (before after : World) where
     pub status : conclusion_status report.conclusion ≡ result
     pub leaves : Leaves before after report.text report.written
     pub finer : All StandsFiner report.evaluations
+    pub searched : IfSome report.recipes IsSearchable
 
   -- the words have no listed form
   pub record IsUsage : Type 0 where
@@ -58,11 +60,16 @@ module _ (form : Option Form) (before after : World) where
     pub answers : Answers before.shelf.contents (asking_for form) (refused fault)
     pub leaves : Leaves before after (text_of (refused fault)) None
 
-  -- a put failed, and the sink took a prefix of what was to be printed
-  pub record IsNotWritten : Type 0 where
-    pub outcome : Outcome
-    pub reached : Reaches (asking_for form) before.shelf after.shelf outcome
-    pub leaves : LeavesPrefix before after (text_of outcome) (written_of outcome)
+  -- a put failed, and the sink took a prefix of what was to be printed; or the file of the report could not be written, and
+  -- that was to be printed
+  pub data IsNotWritten : Type 0 where
+    put_failed : (o : Outcome) → Reaches (asking_for form) before.shelf after.shelf o → LeavesPrefix before after (text_of o) (written_of o) → IsNotWritten
+    file_failed : (r : Report) (name bytes : List ℕ)
+        → Answers before.shelf.contents (asking_for form) (reported r)
+        → r.written ≡ Some (name, bytes)
+        → FailsToWrite before.shelf after.shelf name bytes
+        → IsPut (text_of (outcome.not_written name)) before.sink after.sink
+        → IsNotWritten
 
   -- memory ran out for a command, and nothing was printed
   pub record IsOutOfMemory : Type 0 where
@@ -84,7 +91,7 @@ module _ (form : Option Form) (before after : World) where
     pub tells : Tells (kind_of status) status
     pub no_form : form ≡ None → (status ≡ 1) ⊎ (status ≡ 4)
 
-  -- the call printed the whole outcome, or ran out of memory
+  -- the call wrote and printed the whole outcome, or ran out of memory
   abbrev pub IsSaid : Outcome → ℕ → Type 0
   IsSaid o status = (status ≡ out_of_memory_status) ⊎ ((status ≡ status_of o) × Leaves before after (text_of o) (written_of o))
 
@@ -94,15 +101,17 @@ module _ (form : Option Form) (before after : World) where
       (c : Contents) (o : Outcome) → before.shelf.contents ≡ Some c
       → result_of c.file (asking_for form) ≡ Ok o
       → ((n : List ℕ) → IsDue before.shelf.contents (asking_for form) n → Rose (before.shelf.read_faults n) (after.shelf.read_faults n) → ⊥)
+      → IfSome (written_of o) (λ file. Rose (before.shelf.write_faults file.0) (after.shelf.write_faults file.0) → ⊥)
       → (Rose before.sink.faults after.sink.faults → ⊥)
       → IsSaid o status
 
-  -- Where the files are known and give an outcome, and reads of the due names and puts of the text are promised to
-  -- succeed, the call prints it and the sink counts no failure
+  -- Where the files are known and give an outcome, and reads of the due names, writes of its file and puts of its text are
+  -- promised to succeed, the call prints it and the sink counts no failure
   abbrev pub IsReliable : ℕ → Type 0
   IsReliable status =
       (c : Contents) (o : Outcome) → before.shelf.contents ≡ Some c
       → result_of c.file (asking_for form) ≡ Ok o
       → ((n : List ℕ) → IsDue before.shelf.contents (asking_for form) n → IsTrue (before.shelf.reads_promised n))
+      → IfSome (written_of o) (λ file. IsTrue (before.shelf.writes_promised file.0 (length file.1)))
       → IsTrue (before.sink.puts_promised (length (text_of o)))
       → IsSaid o status × (after.sink.faults ≡ before.sink.faults)

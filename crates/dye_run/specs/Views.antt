@@ -1,6 +1,8 @@
 -- What the commands and the inputs of the code stand for.
 use Rattle.dye_run.specs.declared.command.Command.{Command}
 use Rattle.dye_run.specs.declared.command.Command.TheVariants as code
+use Rattle.dye_run.specs.declared.cert_files.CertTables.{CertTables}
+use Rattle.dye_run.specs.declared.cert_words.CertWords.{CertWords}
 use Rattle.dye_run.specs.declared.commands.diff.Diff.{Diff}
 use Rattle.dye_run.specs.declared.commands.ks.Ks.{Ks}
 use Rattle.dye_run.specs.declared.commands.show.Show.{Show}
@@ -11,7 +13,7 @@ use Rattle.dye_run.specs.declared.words.LitColumn.{LitColumn}
 use Rattle.std.specs.Global.{Vec}
 use Rattle.std.specs.Prelude.{ℕ, List, Option, option_map}
 use Rattle.dye_run.specs.Diff.{DiffWords}
-use Rattle.dye_run.specs.Forms.{Form, diff, ks, lab, show, xyz}
+use Rattle.dye_run.specs.Forms.{Form, check, correct, demo, diff, ks, lab, predict, show, xyz}
 use Rattle.dye_run.specs.Inputs as inputs
 use Rattle.dye_run.specs.Jobs as jobs
 use Rattle.dye_run.specs.Ks.{KsWords}
@@ -41,12 +43,19 @@ diff_view c = record {
 abbrev pub show_view : Show → ShowWords
 show_view c = record { job = c.job.now; steps = c.steps.now }
 
+abbrev pub cert_words_view : CertWords → words.CertWords
+cert_words_view c = record { job = c.job.now; cert = c.cert.text.now }
+
 abbrev pub form_view : Command → Form
 form_view (code.Ks c) = ks (ks_view c)
 form_view (code.Xyz c) = xyz (lit_view c)
 form_view (code.Lab c) = lab (lit_view c)
 form_view (code.Diff c) = diff (diff_view c)
 form_view (code.Show c) = show (show_view c)
+form_view (code.Predict c) = predict (cert_words_view c)
+form_view (code.Correct c) = correct (cert_words_view c)
+form_view (code.Check c) = check (cert_words_view c)
+form_view (code.Demo d) = demo d.0.number
 
 -- the curves and the weights that were read
 abbrev pub tables_view : Tables → inputs.Tables
@@ -59,3 +68,7 @@ came_view came = option_map (λ bytes. bytes.items) came
 -- the curves and the weights of a job that were read
 abbrev pub job_tables_view : JobTables → jobs.JobTables
 job_tables_view tables = record { book = tables.book; weights = tables.weights.items }
+
+-- the same, with the text of a certificate
+abbrev pub cert_tables_view : CertTables → jobs.CertTables
+cert_tables_view t = record { tables = job_tables_view t.tables; text = t.text.items }

@@ -1,10 +1,29 @@
 -- Words of a command line.
-use Rattle.std.specs.Prelude.{ℕ, Bool, List, [], ◌∷◌, Option, Some, None, length, nat_le, ◌&&◌, if◌then◌else◌}
+use Rattle.std.specs.Prelude.{ℕ, Bool, List, [], ◌∷◌, Option, Some, None, codes, length, nat_le, not, ◌==◌, ◌&&◌, if◌then◌else◌}
+use Rattle.std.specs.List.{ends_with}
 use Rattle.dec_text.specs.Whole.{whole_number}
 
 -- a word that names a file has 1 to 255 bytes
 abbrev pub is_file_word : List ℕ → Bool
 is_file_word word = nat_le 1 (length word) && nat_le (length word) 255
+
+-- a word that names a certificate names a file, and ends with `.cert`
+abbrev pub is_cert_word : List ℕ → Bool
+is_cert_word word = is_file_word word && ends_with ◌==◌ word (codes ".cert")
+
+-- a word that names a job names a file, and does not
+abbrev pub is_job_word : List ℕ → Bool
+is_job_word word = is_file_word word && not (ends_with ◌==◌ word (codes ".cert"))
+
+-- a job and a certificate
+pub record CertWords : Type 0 where
+  pub job : List ℕ
+  pub cert : List ℕ
+
+-- JOB CERT
+abbrev pub cert_words : List (List ℕ) → Option CertWords
+cert_words (job ∷ cert ∷ []) = if is_job_word job && is_cert_word cert then Some (record { job = job; cert = cert }) else None
+cert_words words = None
 
 -- a number, where it lies in a range
 abbrev pub within : ℕ → ℕ → Option ℕ → Option ℕ

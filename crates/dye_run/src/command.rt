@@ -7,9 +7,13 @@ ghost use Rattle.dye_run.specs.Forms.{form_of};
 ghost use Rattle.dye_run.specs.Judging.{IsJudged};
 ghost use Rattle.dye_run.specs.Views.{form_view};
 
+use crate::cert_words::CertWords;
+use crate::commands::check::Check;
+use crate::commands::demo::Demo;
 use crate::commands::diff::Diff;
 use crate::commands::ks::Ks;
 use crate::commands::lab::Lab;
+use crate::commands::search::Search;
 use crate::commands::show::Show;
 use crate::commands::xyz::Xyz;
 use crate::coordinates::ColumnReport;
@@ -17,6 +21,7 @@ use crate::inquiry::inquire;
 use crate::report::Report;
 use crate::stop::Stop;
 use crate::words::LitColumn;
+use job_file::BatchRule;
 use shelf_io::Shelf;
 use std::alloc::Global;
 
@@ -28,6 +33,10 @@ pub(crate) enum Command<'a> {
     Lab(LitColumn<'a>),
     Diff(Diff<'a>),
     Show(Show<'a>),
+    Predict(CertWords<'a>),
+    Correct(CertWords<'a>),
+    Check(CertWords<'a>),
+    Demo(Demo),
 }
 
 /// The command that the words form, if they have one of the listed forms.
@@ -43,6 +52,13 @@ pub(crate) fn command_of(words: &[String]) -> Option<Command<'_>>
         "lab" => LitColumn::of_words(rest).map(Command::Lab),
         "diff" => Diff::of_words(rest).map(Command::Diff),
         "show" => Show::of_words(rest).map(Command::Show),
+        "predict" => CertWords::of_words(rest).map(Command::Predict),
+        "correct" => CertWords::of_words(rest).map(Command::Correct),
+        "check" => CertWords::of_words(rest).map(Command::Check),
+        "demo" => match Demo::of_words(rest) {
+            Some(words) => Some(Command::Demo(words)),
+            None => None,
+        },
         _ => None,
     }
 }
@@ -52,7 +68,7 @@ pub(crate) fn judge<'a, H: Shelf>(
     alloc: Global,
     shelf: &mut H,
     command: Command<'a>,
-) -> Result<Report, Stop<'a>>
+) -> Result<Report<'a>, Stop<'a>>
     ensures judged { IsJudged (asking_of (form_view command.entry))
         (H.view shelf.old) (H.view shelf.new) result }
     ensures reads { ReadsDue (asking_of (form_view command.entry))
@@ -64,5 +80,9 @@ pub(crate) fn judge<'a, H: Shelf>(
         Command::Lab(words) => inquire(alloc, shelf, ColumnReport(words, Lab)),
         Command::Diff(words) => inquire(alloc, shelf, words),
         Command::Show(words) => inquire(alloc, shelf, words),
+        Command::Predict(words) => inquire(alloc, shelf, Search(words, BatchRule::Without)),
+        Command::Correct(words) => inquire(alloc, shelf, Search(words, BatchRule::With)),
+        Command::Check(words) => inquire(alloc, shelf, Check(words)),
+        Command::Demo(words) => inquire(alloc, shelf, words),
     }
 }

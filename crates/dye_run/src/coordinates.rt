@@ -47,7 +47,7 @@ impl<'a, C: Coordinates> Inquiry<'a> for ColumnReport<'a, C> {
     }
 
     #[tactic(auto, unfolding(crate::specs::Coordinates::coordinates_report))]
-    fn report(self, alloc: Global, tables: &Tables) -> Result<Report, Stop<'a>> {
+    fn report(self, alloc: Global, tables: &Tables) -> Result<Report<'a>, Stop<'a>> {
         let ColumnReport(words, coordinates) = self;
         let curve = curve_from(words.curves, words.column, &tables.book)?;
         let text = coordinates.text(alloc, &tables.light, curve)?;

@@ -29,7 +29,7 @@ pub(crate) trait Inquiry<'a>: Copy {
         ensures reads { ReadsDue (asking self) (H.view shelf.old) (H.view shelf.new) };
 
     /// Reports on what they hold.
-    fn report(self, alloc: Global, input: &Self::Input) -> Result<Report, Stop<'a>>
+    fn report(self, alloc: Global, input: &Self::Input) -> Result<Report<'a>, Stop<'a>>
         ensures { Reports result (judged self input.now) };
 }
 
@@ -38,7 +38,7 @@ pub(crate) fn inquire<'a, H: Shelf, C: Inquiry<'a>>(
     alloc: Global,
     shelf: &mut H,
     command: C,
-) -> Result<Report, Stop<'a>>
+) -> Result<Report<'a>, Stop<'a>>
     ensures judged { IsJudged (C.asking command)
         (H.view shelf.old) (H.view shelf.new) result }
     ensures reads { ReadsDue (C.asking command) (H.view shelf.old) (H.view shelf.new) }

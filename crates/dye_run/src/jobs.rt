@@ -9,8 +9,9 @@ ghost use Rattle.spectral_tables.specs.CurveBook.{IsBook};
 ghost use Rattle.spectral_tables.specs.WeightTable.{IsWeightTable};
 ghost use Rattle.dye_run.specs.Answers.{Report};
 ghost use Rattle.dye_run.specs.Asking.{Asking, ReadsDue};
+ghost use Rattle.dye_run.specs.Files.{FitsFiles};
 ghost use Rattle.dye_run.specs.Jobs as spec;
-ghost use Rattle.dye_run.specs.Jobs.{asks_each, asks_job, asks_job_tables, job_tables_from, resolved_from, weights_after};
+ghost use Rattle.dye_run.specs.Jobs.{asks_each, asks_job, asks_job_files, asks_job_tables, job_tables_from, resolved_from, weights_after};
 ghost use Rattle.dye_run.specs.Judging.{Gives, GoesOn, IsInput, StopsHaving};
 ghost use Rattle.dye_run.specs.Outcome.{Fault};
 ghost use Rattle.dye_run.specs.Views.{came_view, job_tables_view};
@@ -25,7 +26,7 @@ use spectral_tables::{CurveBook, Weights};
 use std::alloc::Global;
 
 /// How many bytes a file of a job may have.
-const JOB_LIMIT: u64 = 1_000_000;
+pub(crate) const JOB_LIMIT: u64 = 1_000_000;
 
 /// The curves of a job, and the weights of its lights in their order.
 #[derive(Drop)]
@@ -36,7 +37,7 @@ pub(crate) struct JobTables {
 
 /// The job of a file, of which these bytes came, or `None` where it is too long.
 #[tactic(auto, unfolding(crate::specs::Jobs::job_from))]
-fn job_from<'a>(
+pub(crate) fn job_from<'a>(
     alloc: Global,
     rule: BatchRule,
     name: &'a str,
@@ -101,24 +102,48 @@ fn weights_of<'n>(
     Ok(weights)
 }
 
+/// What came of the files of a job: its curves, and the weights of its lights in their order.
+#[derive(Drop)]
+pub(crate) struct CameFiles {
+    pub curves: Option<Vec<u8>>,
+    pub weights: Vec<Option<Vec<u8>>>,
+}
+
+/// Reads the curves of a job and then the weights of its lights, which are all due.
+pub(crate) fn read_job_files<'n, H: Shelf>(
+    alloc: Global,
+    shelf: &mut H,
+    job: &'n Job,
+) -> Result<CameFiles, Stop<'n>>
+    ensures came { (next : Option (List ℕ) → List (Option (List ℕ)) → Asking) → IfOk result (λ c.
+        GoesOn (asks_job_files (job_view job.now) next)
+        (next (came_view c.curves) (map came_view c.weights.items))
+        (H.view shelf.old) (H.view shelf.new)) }
+    ensures fit { IfOk result (FitsFiles (length job.now.light.items)) }
+    ensures stopped { (next : Option (List ℕ) → List (Option (List ℕ)) → Asking) →
+        IfErr result (λ why. StopsHaving (asks_job_files (job_view job.now) next)
+        (H.view shelf.old) (H.view shelf.new) why) }
+{
+    let curves = due(alloc, shelf, job.curves.as_str(), TABLE_LIMIT)?;
+    let weights = read_lights(alloc, shelf, job.light.as_slice())?;
+    Ok(CameFiles { curves, weights })
+}
+
 /// The tables of a job, from what came of its files.
 #[tactic(auto, unfolding(crate::specs::Jobs::job_tables_from))]
-fn tables_of<'n>(
+pub(crate) fn tables_of<'n>(
     alloc: Global,
     job: &'n Job,
-    curves: &Option<Vec<u8>>,
-    weights: &[Option<Vec<u8>>],
+    came: &CameFiles,
 ) -> Result<JobTables, Stop<'n>>
-    requires curves { ForSome curves.now (λ bytes. length bytes.items ≤ 1000000) }
-    requires count { length weights.now ≡ length job.now.light.items }
-    requires short { All (λ c. IfSome c (λ bytes. length bytes.items ≤ 1000000)) weights.now }
-    ensures is { Gives job_tables_view result
-        (job_tables_from (job_view job.now) (came_view curves.now) (map came_view weights.now)) }
+    requires { FitsFiles (length job.now.light.items) came.now }
+    ensures is { Gives job_tables_view result (job_tables_from (job_view job.now)
+        (came_view came.now.curves) (map came_view came.now.weights.items)) }
     ensures count { IfOk result (λ t. length t.weights.items ≡ length job.now.light.items) }
     ensures held { IfOk result (λ t. All IsWeightTable t.weights.items) }
 {
-    let book = table_from(alloc, job.curves.as_str(), curves.as_deref())?;
-    let weights = weights_of(alloc, job.light.as_slice(), weights)?;
+    let book = table_from(alloc, job.curves.as_str(), came.curves.as_deref())?;
+    let weights = weights_of(alloc, job.light.as_slice(), came.weights.as_slice())?;
     Ok(JobTables { book, weights })
 }
 
@@ -138,13 +163,12 @@ fn read_job_tables<'n, H: Shelf>(
     ensures count { IfOk result (λ t. length t.weights.items ≡ length job.now.light.items) }
     ensures held { IfOk result (λ t. All IsWeightTable t.weights.items) }
 {
-    let curves = due(alloc, shelf, job.curves.as_str(), TABLE_LIMIT)?;
-    let weights = read_lights(alloc, shelf, job.light.as_slice())?;
-    tables_of(alloc, job, &curves, &weights)
+    let came = read_job_files(alloc, shelf, job)?;
+    tables_of(alloc, job, &came)
 }
 
 /// What a job comes to over its tables.
-fn resolved_from<'a>(
+pub(crate) fn resolved_from<'a>(
     alloc: Global,
     name: &'a str,
     job: Job,

@@ -2,15 +2,20 @@
 //! call, generic over the shelf that it reads and the sink that it writes to.
 #![tactic(auto)]
 
+mod cert_files;
+mod cert_words;
 mod colour;
 mod command;
 mod commands;
 mod coordinates;
+mod file_name;
 mod inputs;
 mod inquiry;
 mod jobs;
 mod lines;
+mod recipes;
 mod report;
+mod seed;
 mod statuses;
 mod stop;
 mod tables;

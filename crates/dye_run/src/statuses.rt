@@ -13,6 +13,12 @@ pub(crate) enum Conclusion {
     NoVerdict,
     /// It has this verdict.
     Judged(Verdict),
+    /// A recipe was found.
+    Found,
+    /// There is no recipe to find.
+    NoneFound,
+    /// The budget of boxes ended first.
+    BudgetEnded,
 }
 
 /// The status where a put failed.
@@ -26,7 +32,9 @@ pub(crate) fn conclusion_status(conclusion: Conclusion) -> u8
     ensures { result ≡ conclusion_status conclusion }
 {
     match conclusion {
-        Conclusion::NoVerdict | Conclusion::Judged(Verdict::Pass) => 0,
+        Conclusion::NoVerdict | Conclusion::Judged(Verdict::Pass) | Conclusion::Found => 0,
+        Conclusion::NoneFound => 5,
+        Conclusion::BudgetEnded => 6,
         Conclusion::Judged(Verdict::Fail(_)) => 8,
         Conclusion::Judged(Verdict::Undecided) => 9,
     }
@@ -40,6 +48,8 @@ pub(crate) fn refusal_status(refusal: &Refusal) -> u8
         Refusal::Usage => 1,
         Refusal::Unreadable(_) => 2,
         Refusal::TooLong(_) | Refusal::Table(..) | Refusal::Job(..) | Refusal::NoColumn(..) => 3,
+        Refusal::NotWritten(_) => NOT_WRITTEN,
+        Refusal::CertGrammar(_) | Refusal::CertWrong(..) => 7,
         Refusal::Steps(_) => 11,
     }
 }

@@ -4,6 +4,7 @@ ghost use Rattle.std.specs.Prelude.{◌≡◌, ◌⊎◌, IfOk, None, option_map
 ghost use Rattle.dye_run.specs.Judging.{owned_outcome, stop_outcome};
 ghost use Rattle.dye_run.specs.Outcome.{refusal_outcome};
 
+use box_core::{CertFault, Why};
 use job_file::{JobFault, Text};
 use price_grid::LimitNo;
 use shade_report::Refusal;
@@ -20,6 +21,9 @@ pub(crate) enum OwnedRefusal {
     Job(Text, JobFault),
     NoColumn(Text, Text),
     Steps(Option<LimitNo>),
+    CertGrammar(CertFault),
+    CertWrong(u32, Why),
+    NotWritten(Text),
 }
 
 fn copy_of(alloc: Global, text: &str) -> Result<Text, AllocError>
@@ -43,6 +47,9 @@ impl OwnedRefusal {
                 OwnedRefusal::NoColumn(copy_of(alloc, name)?, copy_of(alloc, column)?)
             }
             Refusal::Steps(limit) => OwnedRefusal::Steps(limit),
+            Refusal::CertGrammar(fault) => OwnedRefusal::CertGrammar(fault),
+            Refusal::CertWrong(line, why) => OwnedRefusal::CertWrong(line, why),
+            Refusal::NotWritten(name) => OwnedRefusal::NotWritten(copy_of(alloc, name)?),
         })
     }
 
@@ -60,6 +67,9 @@ impl OwnedRefusal {
                 Refusal::NoColumn(name.as_str(), column.as_str())
             }
             OwnedRefusal::Steps(limit) => Refusal::Steps(*limit),
+            OwnedRefusal::CertGrammar(fault) => Refusal::CertGrammar(*fault),
+            OwnedRefusal::CertWrong(line, why) => Refusal::CertWrong(*line, *why),
+            OwnedRefusal::NotWritten(name) => Refusal::NotWritten(name.as_str()),
         }
     }
 }

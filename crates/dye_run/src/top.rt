@@ -1,15 +1,19 @@
 ghost use Rattle.std.specs.Prelude.{◌≡◌, is_err, IsErrOf, IsSome, map, string_bytes, if◌then◌else◌};
 ghost use Rattle.dye_run.specs.Asking.{ReadsDue};
 ghost use Rattle.dye_run.specs.Commands.{asking_for};
+ghost use Rattle.dye_run.specs.Delivery.{Delivers, Prints};
 ghost use Rattle.dye_run.specs.Endings.{Changes, Ended, not_written_status, world};
 ghost use Rattle.dye_run.specs.Forms.{form_of};
-ghost use Rattle.dye_run.specs.Judging.{IsJudged};
+ghost use Rattle.dye_run.specs.Headline.{SaysOfRecipes};
+ghost use Rattle.dye_run.specs.Judging.{IsJudged, file_view};
+ghost use Rattle.dye_run.specs.Outcome.{conclusion_status, refusal_outcome, status_of, text_of};
 ghost use Rattle.dye_run.specs.Statuses.{IsComplete, IsReliable, StatusTells};
 
 use crate::command::{command_of, judge};
 use crate::report::Report;
 use crate::statuses::{NOT_WRITTEN, OUT_OF_MEMORY, conclusion_status, refusal_status};
 use crate::stop::Stop;
+use box_cert::write_cert;
 use shade_report::{Refusal, put_refusal};
 use shelf_io::{Failed, Shelf, Sink};
 use std::alloc::Global;
@@ -19,7 +23,7 @@ fn answer<'a, H: Shelf>(
     alloc: Global,
     words: &'a [String],
     shelf: &mut H,
-) -> Result<Report, Stop<'a>>
+) -> Result<Report<'a>, Stop<'a>>
     ensures judged { IsJudged (asking_for (form_of (map string_bytes words.now)))
         (H.view shelf.old) (H.view shelf.new) result }
     ensures reads { ReadsDue (asking_for (form_of (map string_bytes words.now)))
@@ -42,7 +46,42 @@ fn status_after(put: Result<(), Failed>, status: u8) -> u8
     }
 }
 
-// Judges what the words ask for, and prints the report or the refusal.
+// Prints a text, and answers its status.
+fn print<O: Sink>(text: &[u8], status: u8, out: &mut O) -> u8
+    ensures { Prints text.now status (O.view out.old) (O.view out.new) result }
+{
+    let put = out.put(text);
+    status_after(put, status)
+}
+
+// Prints a refusal, and answers its status. It takes no memory.
+fn refuse<O: Sink>(refusal: &Refusal, out: &mut O) -> u8
+    ensures { Prints (text_of (refusal_outcome refusal.now)) (status_of (refusal_outcome refusal.now))
+        (O.view out.old) (O.view out.new) result }
+{
+    let put = put_refusal(out, refusal);
+    status_after(put, refusal_status(refusal))
+}
+
+// Writes the file of a report, if it has one, and prints the report, or that the file could not be
+// written. It takes no memory.
+fn deliver<H: Shelf, O: Sink>(report: &Report, shelf: &mut H, out: &mut O) -> u8
+    ensures { Delivers (file_view report.now.written) report.now.text.items
+        (conclusion_status report.now.conclusion)
+        (world (H.view shelf.old) (O.view out.old))
+        (world (H.view shelf.new) (O.view out.new)) result }
+{
+    let status = conclusion_status(report.conclusion);
+    let Some(file) = &report.written else {
+        return print(report.text.as_slice(), status, out);
+    };
+    match write_cert(&file.cert, shelf, file.name.text) {
+        Ok(()) => print(report.text.as_slice(), status, out),
+        Err(Failed) => refuse(&Refusal::NotWritten(file.name.text), out),
+    }
+}
+
+// Judges what the words ask for, writes its file, and prints the report or the refusal.
 fn speak<H: Shelf, O: Sink>(alloc: Global, words: &[String], shelf: &mut H, out: &mut O) -> u8
     ensures ended { Ended (form_of (map string_bytes words.now))
         (world (H.view shelf.old) (O.view out.old))
@@ -51,22 +90,17 @@ fn speak<H: Shelf, O: Sink>(alloc: Global, words: &[String], shelf: &mut H, out:
         (world (H.view shelf.old) (O.view out.old)) (world (H.view shelf.new) (O.view out.new)) }
 {
     match answer(alloc, words, shelf) {
-        Ok(report) => {
-            let put = out.put(report.text.as_slice());
-            status_after(put, conclusion_status(report.conclusion))
-        }
+        Ok(report) => deliver(&report, shelf, out),
         Err(stop) => match stop.refusal() {
-            Some(refusal) => {
-                let put = put_refusal(out, &refusal);
-                status_after(put, refusal_status(&refusal))
-            }
+            Some(refusal) => refuse(&refusal, out),
             None => OUT_OF_MEMORY,
         },
     }
 }
 
 /// All that the program does: it reads the words of its command line, reads the due files from the
-/// shelf, puts the text into the sink, and answers the status.
+/// shelf, writes the certificate where there is one, puts the text into the sink, and answers the
+/// status.
 pub fn run<H: Shelf, O: Sink>(alloc: Global, words: &[String], shelf: &mut H, out: &mut O) -> u8
     // How the call ended, and what its status tells of that.
     ensures ended { Ended (form_of (map string_bytes words.now))
@@ -81,6 +115,11 @@ pub fn run<H: Shelf, O: Sink>(alloc: Global, words: &[String], shelf: &mut H, ou
         (world (H.view shelf.old) (O.view out.old))
         (world (H.view shelf.new) (O.view out.new)) result }
     ensures reliable { IsReliable (form_of (map string_bytes words.now))
+        (world (H.view shelf.old) (O.view out.old))
+        (world (H.view shelf.new) (O.view out.new)) result }
+
+    // What it says of the recipes of a job.
+    ensures recipes { SaysOfRecipes (form_of (map string_bytes words.now))
         (world (H.view shelf.old) (O.view out.old))
         (world (H.view shelf.new) (O.view out.new)) result }
 

@@ -1,8 +1,9 @@
 //! Words of a command line.
 
-ghost use Rattle.std.specs.Prelude.{◌≡◌, ◌≤◌, IfSome, map, option_map, string_bytes};
+ghost use Rattle.std.specs.Prelude.{◌≡◌, ◌==◌, ◌≤◌, IfSome, codes, length, map, option_map, string_bytes, true};
+ghost use Rattle.std.specs.List.{ends_with};
 ghost use Rattle.dye_run.specs.Views.{lit_view};
-ghost use Rattle.dye_run.specs.Words.{is_file_word, lit_column_of, number_in};
+ghost use Rattle.dye_run.specs.Words.{is_cert_word, is_file_word, is_job_word, lit_column_of, number_in};
 
 use dec_text::read_whole;
 
@@ -11,6 +12,27 @@ pub(crate) fn names_file(word: &str) -> bool
     ensures { result ≡ is_file_word word.now }
 {
     1 <= word.len() && word.len() <= 255
+}
+
+fn ends_as_certificate(word: &[u8]) -> bool
+    ensures { result ≡ ends_with ◌==◌ word.now (codes ".cert") }
+{
+    word.ends_with(b".cert")
+}
+
+/// Whether a word can name a job.
+pub(crate) fn names_job(word: &str) -> bool
+    ensures { result ≡ is_job_word word.now }
+{
+    names_file(word) && !ends_as_certificate(word.as_bytes())
+}
+
+/// Whether a word can name a certificate.
+pub(crate) fn names_cert(word: &str) -> bool
+    ensures is { result ≡ is_cert_word word.now }
+    ensures short { result ≡ true → (1 ≤ length word.now) × (length word.now ≤ 255) }
+{
+    names_file(word) && ends_as_certificate(word.as_bytes())
 }
 
 /// The number of a word of one to nine digits, where it lies in a range.

@@ -1,7 +1,9 @@
 mod calls;
 mod failures;
 mod files;
+mod hostile;
 mod jobs;
 mod refusals;
 mod reports;
+mod searches;
 mod texts;

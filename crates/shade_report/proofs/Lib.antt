@@ -1,3 +1,4 @@
 mod Puts
 mod Refused
 mod RecipeLines
+mod Undecided

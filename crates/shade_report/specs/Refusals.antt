@@ -9,14 +9,20 @@ use Rattle.job_file.specs.declared.fault.JobRule.{JobRule}
 use Rattle.job_file.specs.declared.fault.JobRule.TheVariants as job
 use Rattle.job_file.specs.declared.fault.Part.{Part}
 use Rattle.job_file.specs.declared.fault.Part.TheVariants as part
+use Rattle.box_specs.specs.declared.certificate.CertRule.{CertRule}
+use Rattle.box_specs.specs.declared.certificate.CertRule.TheVariants as grammar
+use Rattle.box_specs.specs.declared.certificate.Why.{Why}
+use Rattle.box_specs.specs.declared.certificate.Why.TheVariants as why
 use Rattle.shade_report.specs.declared.refusal.Refusal.{Refusal}
-use Rattle.shade_report.specs.declared.refusal.Refusal.TheVariants.{Job, NoColumn, Steps, Table, TooLong, Unreadable, Usage}
+use Rattle.shade_report.specs.declared.refusal.Refusal.TheVariants.{CertGrammar, CertWrong, Job, NoColumn, NotWritten, Steps, Table, TooLong, Unreadable, Usage}
 
 -- the forms that a command line may have
 abbrev pub usage_text : List ℕ
 usage_text =
     codes "usage: dye ks CURVES COLUMN\n" ++ codes "       dye xyz CURVES COLUMN WEIGHTS\n" ++ codes "       dye lab CURVES COLUMN WEIGHTS\n"
     ++ codes "       dye diff CURVES STANDARD SAMPLE WEIGHTS L10 C10 [TOL]\n" ++ codes "       dye show JOB STEPS\n"
+    ++ codes "       dye predict JOB CERT\n" ++ codes "       dye correct JOB CERT\n" ++ codes "       dye check JOB CERT\n"
+    ++ codes "       dye demo NUMBER\n"
 
 -- a file could not be read
 abbrev pub unreadable_text : List ℕ → List ℕ
@@ -82,6 +88,31 @@ abbrev pub steps_text : Option LimitNo → List ℕ
 steps_text None = codes "steps refused\n"
 steps_text (Some limit) = codes "steps refused limit " ++ decimal limit.0 ++ 10 ∷ []
 
+-- the certificate could not be written into a file
+abbrev pub not_written_text : List ℕ → List ℕ
+not_written_text name = codes "not written " ++ name ++ 10 ∷ []
+
+abbrev pub cert_rule_name : CertRule → List ℕ
+cert_rule_name grammar.BadHeader = codes "BadHeader"
+cert_rule_name grammar.BadClaim = codes "BadClaim"
+cert_rule_name grammar.BadLine = codes "BadLine"
+cert_rule_name grammar.Missing = codes "Missing"
+cert_rule_name grammar.Left = codes "Left"
+
+abbrev pub why_name : Why → List ℕ
+why_name why.BadSplit = codes "BadSplit"
+why_name why.NotLimit = codes "NotLimit"
+why_name why.NotFailing = codes "NotFailing"
+why_name why.NotDear = codes "NotDear"
+why_name why.NotPoint = codes "NotPoint"
+why_name why.NotUndecided = codes "NotUndecided"
+why_name why.NotPassing = codes "NotPassing"
+why_name why.WrongList = codes "WrongList"
+
+-- a line of a certificate breaks a rule, of its grammar or of what it means
+abbrev pub cert_text : ℕ → List ℕ → List ℕ
+cert_text line rule = codes "certificate refused line " ++ decimal line ++ 32 ∷ rule ++ 10 ∷ []
+
 -- the text of each refusal
 abbrev pub refusal_text : Refusal → List ℕ
 refusal_text Usage = usage_text
@@ -91,3 +122,6 @@ refusal_text (Table name fault) = refused_text name.now (fault_text fault)
 refusal_text (Job name fault) = refused_text name.now (job_fault_text fault)
 refusal_text (NoColumn name column) = refused_text name.now (no_column_text column.now)
 refusal_text (Steps limit) = steps_text limit
+refusal_text (NotWritten name) = not_written_text name.now
+refusal_text (CertGrammar fault) = cert_text fault.line (cert_rule_name fault.rule)
+refusal_text (CertWrong line why) = cert_text line (why_name why)

@@ -1,7 +1,12 @@
-//! What the program prints: the text of a recipe, the text of each refusal as a function of the
-//! refusal, and the call that puts a refusal into a sink.
+//! What the program prints: the texts of a recipe, of what a search found and of what a check
+//! accepted, the text of each refusal as a function of the refusal, and the call that puts it
+//! into a sink.
 #![tactic(auto)]
 
+mod claims;
+mod demo;
+mod lines;
+mod outcome;
 mod pieces;
 mod recipe;
 mod refusal;
@@ -9,6 +14,9 @@ mod rules;
 mod shown;
 mod text;
 
+pub use claims::accepted_text;
+pub use demo::demo_text;
+pub use outcome::outcome_text;
 pub use recipe::{show_text, verdict_name};
 pub use refusal::{Refusal, put_refusal};
 pub use shown::Shown;

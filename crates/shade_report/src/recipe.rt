@@ -1,16 +1,13 @@
 //! The text of one recipe.
 
-ghost use Rattle.std.specs.Prelude.{◌≡◌, ◌≤◌, ◌++◌, All, IfOk, OnOk, decimal, length, pos};
-ghost use Rattle.dec_text.specs.FixedPoint.{fixed_text, pair_text};
+ghost use Rattle.std.specs.Prelude.{◌≡◌, ◌≤◌, ◌++◌, All, IfOk, OnOk, length};
 ghost use Rattle.job_file.specs.Dye.{IsDye};
 ghost use Rattle.job_file.specs.JobView.{job_view};
 ghost use Rattle.shade_report.specs.Recipes.{FitsJob, dye_text, dyes_text, light_text, lights_text, recipe_text, show_text, shown_view, verdict_name};
 
+use crate::lines::{push_count, push_ends, push_fixed};
 use crate::shown::Shown;
-use arrayvec::ArrayVec;
-use dec_text::{put_fixed, put_pair};
 use fix_bounds::{Base, Iv};
-use itoa::Buffer;
 use job_file::{Job, JobDye};
 use metamerism::Verdict;
 use std::alloc::{AllocError, Global};
@@ -24,40 +21,6 @@ pub fn verdict_name(verdict: Verdict) -> &'static str
         Verdict::Fail(_) => "fail",
         Verdict::Undecided => "undecided",
     }
-}
-
-/// Appends a word and a number.
-fn push_count(text: &mut Vec<u8>, word: &str, count: u64) -> Result<(), AllocError>
-    ensures { OnOk result (text.new.items ≡ text.old.items ++ (word.now ++ decimal count)) }
-{
-    text.extend_from_slice(word.as_bytes())?;
-    text.extend_from_slice(Buffer::new().format(count).as_bytes())?;
-    Ok(())
-}
-
-/// Appends a word and a number that is counted in its last decimal.
-fn push_fixed(text: &mut Vec<u8>, word: &str, number: u64, decimals: u8) -> Result<(), AllocError>
-    requires { decimals ≤ 12 }
-    ensures { OnOk result (text.new.items ≡ text.old.items
-        ++ (word.now ++ fixed_text decimals (pos number))) }
-{
-    let mut digits = ArrayVec::new();
-    put_fixed(i128::from(number), decimals, &mut digits);
-    text.extend_from_slice(word.as_bytes())?;
-    text.extend_from_slice(&digits)?;
-    Ok(())
-}
-
-/// Appends a word and both ends of an enclosure.
-fn push_ends(text: &mut Vec<u8>, word: &str, enclosure: Iv<Base>) -> Result<(), AllocError>
-    ensures { OnOk result (text.new.items ≡ text.old.items
-        ++ (word.now ++ pair_text enclosure.lo enclosure.hi)) }
-{
-    let mut ends = ArrayVec::new();
-    put_pair(enclosure.lo(), enclosure.hi(), &mut ends);
-    text.extend_from_slice(word.as_bytes())?;
-    text.extend_from_slice(&ends)?;
-    Ok(())
 }
 
 /// Appends the line of a dye of which there are so many steps, for a load in kilograms.
@@ -114,7 +77,7 @@ fn push_dyes(
 }
 
 /// Appends a line for each light, with the verdict on its difference.
-fn push_lights(
+pub(crate) fn push_lights(
     text: &mut Vec<u8>,
     deltas: &[Iv<Base>],
     verdicts: &[Verdict],
@@ -131,7 +94,7 @@ fn push_lights(
 
 /// Appends the lines of a recipe: its dyes, its cost and its lights.
 #[tactic(auto, unfolding(crate::specs::Recipes::recipe_text))]
-fn push_recipe(text: &mut Vec<u8>, job: &Job, shown: &Shown) -> Result<(), AllocError>
+pub(crate) fn push_recipe(text: &mut Vec<u8>, job: &Job, shown: &Shown) -> Result<(), AllocError>
     requires { FitsJob (job_view job.now) (shown_view shown.now) }
     ensures { OnOk result (text.new.items ≡ text.old.items
         ++ recipe_text (job_view job.now) (shown_view shown.now)) }

@@ -3,12 +3,13 @@
 ghost use Rattle.std.specs.Prelude.{◌≡◌, ◌≤◌, ◌+◌, ◌++◌, length};
 ghost use Rattle.arrayvec.specs.ArrayVec.{array_vec_len};
 ghost use Rattle.shelf_io.specs.Taking.{Puts};
-ghost use Rattle.shade_report.specs.Refusals.{fault_text, job_fault_text, refusal_text, refused_text, steps_text};
+ghost use Rattle.shade_report.specs.Refusals.{cert_text, fault_text, job_fault_text, refusal_text, refused_text, steps_text};
 
 use crate::pieces::put_all;
-use crate::rules::{job_rule_name, part_name, rule_name};
+use crate::rules::{cert_rule_name, job_rule_name, part_name, rule_name, why_name};
 use crate::text::USAGE;
 use arrayvec::ArrayVec;
+use box_core::{CertFault, Why};
 use itoa::Buffer;
 use job_file::JobFault;
 use price_grid::LimitNo;
@@ -32,6 +33,12 @@ pub enum Refusal<'a> {
     NoColumn(&'a str, &'a str),
     /// The steps are no recipe of the grid, or a recipe that breaks this limit.
     Steps(Option<LimitNo>),
+    /// The certificate could not be written into this file.
+    NotWritten(&'a str),
+    /// The text of the certificate breaks a rule of its grammar.
+    CertGrammar(CertFault),
+    /// This line of the certificate, from 1, does not hold, and why.
+    CertWrong(u32, Why),
 }
 
 /// Puts the text of a refusal into the sink. It takes no memory, and fails only where a put failed.
@@ -55,6 +62,9 @@ pub fn put_refusal<O: Sink>(out: &mut O, refusal: &Refusal) -> Result<(), Failed
             ],
         ),
         Refusal::Steps(limit) => put_steps(out, limit),
+        Refusal::NotWritten(name) => put_all(out, &[b"not written ", name.as_bytes(), b"\n"]),
+        Refusal::CertGrammar(fault) => put_cert(out, fault.line, cert_rule_name(fault.rule)),
+        Refusal::CertWrong(line, why) => put_cert(out, line, why_name(why)),
     }
 }
 
@@ -118,4 +128,22 @@ fn put_steps<O: Sink>(out: &mut O, limit: Option<LimitNo>) -> Result<(), Failed>
             put_all(out, &[b"steps refused limit ", digits, b"\n"])
         }
     }
+}
+
+/// Puts the refusal of a certificate: the line, and the rule that it breaks.
+fn put_cert<O: Sink>(out: &mut O, line: u32, rule: &str) -> Result<(), Failed>
+    ensures { Puts (cert_text line rule.now) result (O.view out.old) (O.view out.new) }
+{
+    let mut buffer = Buffer::new();
+    let digits = buffer.format(line).as_bytes();
+    put_all(
+        out,
+        &[
+            b"certificate refused line ",
+            digits,
+            b" ",
+            rule.as_bytes(),
+            b"\n",
+        ],
+    )
 }

@@ -1,8 +1,9 @@
 //! The names of rules.
 
 ghost use Rattle.std.specs.Prelude.{◌≡◌, ◌≤◌, length};
-ghost use Rattle.shade_report.specs.Refusals.{job_rule_name, part_name, rule_name};
+ghost use Rattle.shade_report.specs.Refusals.{cert_rule_name, job_rule_name, part_name, rule_name, why_name};
 
+use box_core::{CertRule, Why};
 use job_file::{JobRule, Part};
 use spectral_tables::TableRule;
 
@@ -59,5 +60,34 @@ pub(crate) fn job_rule_name(rule: JobRule) -> &'static str
         JobRule::TooWide => "TooWide",
         JobRule::UnknownColumn => "UnknownColumn",
         JobRule::TooStrong => "TooStrong",
+    }
+}
+
+/// The name of a rule of the text of certificates.
+pub(crate) fn cert_rule_name(rule: CertRule) -> &'static str
+    ensures { result.now ≡ cert_rule_name rule }
+{
+    match rule {
+        CertRule::BadHeader => "BadHeader",
+        CertRule::BadClaim => "BadClaim",
+        CertRule::BadLine => "BadLine",
+        CertRule::Missing => "Missing",
+        CertRule::Left => "Left",
+    }
+}
+
+/// The name of why a line of a certificate does not hold.
+pub(crate) fn why_name(why: Why) -> &'static str
+    ensures { result.now ≡ why_name why }
+{
+    match why {
+        Why::BadSplit => "BadSplit",
+        Why::NotLimit => "NotLimit",
+        Why::NotFailing => "NotFailing",
+        Why::NotDear => "NotDear",
+        Why::NotPoint => "NotPoint",
+        Why::NotUndecided => "NotUndecided",
+        Why::NotPassing => "NotPassing",
+        Why::WrongList => "WrongList",
     }
 }

@@ -7,4 +7,8 @@ usage: dye ks CURVES COLUMN
        dye lab CURVES COLUMN WEIGHTS
        dye diff CURVES STANDARD SAMPLE WEIGHTS L10 C10 [TOL]
        dye show JOB STEPS
+       dye predict JOB CERT
+       dye correct JOB CERT
+       dye check JOB CERT
+       dye demo NUMBER
 ";

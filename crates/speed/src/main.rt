@@ -1,7 +1,9 @@
 //! Times the operations on intervals at both scales: `speed ROUNDS` prints, for each operation, the
-//! nanoseconds that a thousand calls take at the base scale and at the quick one.
+//! nanoseconds that a thousand calls take at the base scale and at the quick one. `speed ROUNDS JOB`
+//! prints the nanoseconds that a box of the job in a file takes to be judged, and in a search.
 #![tactic(auto)]
 
+mod boxes;
 mod loops;
 mod pairs;
 
@@ -10,12 +12,12 @@ use std::rt::{Clock, Env};
 use std::time::Instant;
 use std::{env, io};
 
-/// The number of rounds that the first word gives, if there is one.
-fn rounds_of<R: Env + AllocGlobal>(rt: &R) -> io::Result<Option<u32>> {
+/// The number of rounds that the first word gives, if there is one, and the second word.
+fn words_of<R: Env + AllocGlobal>(rt: &R) -> io::Result<(Option<u32>, Option<String>)> {
     let mut words = env::args(rt)?.skip(1);
     match words.next() {
-        Some(word) => Ok(word.as_str().parse::<u32>().ok()),
-        None => Ok(None),
+        Some(word) => Ok((word.as_str().parse::<u32>().ok(), words.next())),
+        None => Ok((None, None)),
     }
 }
 
@@ -36,11 +38,12 @@ fn times<S: Scale, R: Clock + Print + AllocGlobal>(
 }
 
 fn main(rt: HostRuntime) -> io::Result<()> {
-    match rounds_of(&rt)? {
-        Some(rounds) => {
+    match words_of(&rt)? {
+        (Some(rounds), Some(job)) => boxes::run(&rt, job.as_str(), rounds),
+        (Some(rounds), None) => {
             times::<Base, HostRuntime>(&rt, "base", rounds)?;
             times::<Quick, HostRuntime>(&rt, "quick", rounds)
         }
-        None => println!(rt; "usage: speed ROUNDS, for the nanoseconds of a thousand calls"),
+        _ => println!(rt; "usage: speed ROUNDS [JOB], for the nanoseconds of a thousand calls"),
     }
 }

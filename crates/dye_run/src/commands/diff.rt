@@ -124,7 +124,7 @@ impl<'a> Inquiry<'a> for Diff<'a> {
     }
 
     #[tactic(auto, unfolding(crate::specs::Diff::diff_report))]
-    fn report(self, alloc: Global, tables: &Tables) -> Result<Report, Stop<'a>> {
+    fn report(self, alloc: Global, tables: &Tables) -> Result<Report<'a>, Stop<'a>> {
         let standard = curve_from(self.curves, self.standard, &tables.book)?;
         let sample = curve_from(self.curves, self.sample, &tables.book)?;
         let found = difference(&self.rule, &tables.light, standard, sample);
@@ -144,11 +144,11 @@ fn verdict_name(verdict: Verdict) -> &'static str
 }
 
 // The line of a difference, and a line for its verdict where there is a tolerance.
-fn difference_report(
+fn difference_report<'a>(
     alloc: Global,
     tolerance: Option<Tolerance>,
     difference: Iv<Base>,
-) -> Result<Report, AllocError>
+) -> Result<Report<'a>, AllocError>
     ensures { IfOk result (λ report.
         (e : Evaluation) → e.at base_unit ≡ difference → e.label ≡ codes "DE"
         → Matches report (difference_report (tolerance_view tolerance) e)) }
@@ -164,5 +164,6 @@ fn difference_report(
     Ok(Report {
         conclusion: Conclusion::Judged(verdict),
         text,
+        written: None,
     })
 }

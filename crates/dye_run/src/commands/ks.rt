@@ -57,7 +57,7 @@ impl<'a> Inquiry<'a> for Ks<'a> {
     }
 
     #[tactic(auto, unfolding(crate::specs::Ks::ks_report))]
-    fn report(self, alloc: Global, book: &CurveBook) -> Result<Report, Stop<'a>> {
+    fn report(self, alloc: Global, book: &CurveBook) -> Result<Report<'a>, Stop<'a>> {
         let curve = curve_from(self.curves, self.column, book)?;
         let text = ks_text(alloc, curve)?;
         Ok(plain_report(text))

@@ -1,29 +1,23 @@
 //! `show`: the report of one recipe of a job.
 
-ghost use Rattle.std.specs.Prelude.{◌≡◌, ◌==◌, ◌≤◌, ◌^◌, All, IfOk, codes, length, map, option_map, string_bytes};
-ghost use Rattle.std.specs.List.{ends_with};
-ghost use Rattle.job_file.specs.Light.{IsLight};
+ghost use Rattle.std.specs.Prelude.{◌≡◌, IfOk, map, option_map, string_bytes};
 ghost use Rattle.price_grid.specs.Grid.{IsRecipe};
-ghost use Rattle.recipe_judge.specs.Evaluation.{tolerances};
-ghost use Rattle.shade_report.specs.Recipes.{shown_view};
 ghost use Rattle.dye_run.specs.Jobs.{asks_job};
 ghost use Rattle.dye_run.specs.Judging.{Gives};
-ghost use Rattle.dye_run.specs.Show.{is_job_word, recipe_from, recipe_values, show_report, show_rule, show_words, verdicts_from};
+ghost use Rattle.dye_run.specs.Show.{recipe_from, show_report, show_rule, show_words};
 ghost use Rattle.dye_run.specs.Views.{show_view};
 
 use crate::inquiry::Inquiry;
 use crate::jobs::read_resolved;
+use crate::recipes::shown_of;
 use crate::report::Report;
 use crate::statuses::Conclusion;
 use crate::stop::Stop;
-use crate::words::names_file;
-use arrayvec::ArrayVec;
-use fix_bounds::{Base, Iv};
-use job_file::{BatchRule, JobLight};
-use metamerism::{Verdict, judge_light};
-use price_grid::{Steps, admits, cost, read_steps};
+use crate::words::names_job;
+use job_file::BatchRule;
+use price_grid::{Steps, admits, read_steps};
 use recipe_judge::RecipeLand;
-use shade_report::{Refusal, Shown, show_text};
+use shade_report::{Refusal, show_text};
 use shelf_io::Shelf;
 use std::alloc::Global;
 
@@ -32,19 +26,6 @@ use std::alloc::Global;
 pub(crate) struct Show<'a> {
     job: &'a str,
     steps: &'a str,
-}
-
-fn ends_as_certificate(word: &[u8]) -> bool
-    ensures { result ≡ ends_with ◌==◌ word.now (codes ".cert") }
-{
-    word.ends_with(b".cert")
-}
-
-/// Whether a word can name a job.
-fn names_job(word: &str) -> bool
-    ensures { result ≡ is_job_word word.now }
-{
-    names_file(word) && !ends_as_certificate(word.as_bytes())
 }
 
 impl Show<'_> {
@@ -76,39 +57,6 @@ fn recipe_from<'a>(land: &RecipeLand, word: &'a str) -> Result<Steps, Stop<'a>>
     }
 }
 
-/// The verdict on each difference by itself.
-fn verdicts_of(lights: &[JobLight], deltas: &[Iv<Base>]) -> ArrayVec<Verdict, 4>
-    requires few { length lights.now ≤ 4 }
-    requires range { All IsLight lights.now }
-    requires count { length deltas.now ≡ length lights.now }
-    ensures is { result.items ≡ verdicts_from 1 (tolerances lights.now) deltas.now }
-    ensures count { length result.items ≡ length deltas.now }
-{
-    let mut verdicts = ArrayVec::new();
-    for (i, light) in lights.iter().enumerate() {
-        verdicts.push(judge_light(light.tolerance, i as u8 + 1, deltas[i]));
-    }
-    verdicts
-}
-
-/// What is shown of a recipe.
-fn shown_of(land: &RecipeLand, steps: Steps) -> Shown
-    requires { IsRecipe land.now.grid steps.items }
-    ensures { shown_view result ≡ recipe_values land.now steps.items }
-{
-    let deltas = land.differences(&steps);
-    let each = verdicts_of(land.job().light.as_slice(), deltas.each.as_slice());
-    let cost = cost(land.grid(), &steps);
-    let whole = land.verdict_of(&steps);
-    Shown {
-        steps,
-        cost,
-        deltas,
-        each,
-        whole,
-    }
-}
-
 impl<'a> Inquiry<'a> for Show<'a> {
     type Input = RecipeLand;
 
@@ -122,13 +70,14 @@ impl<'a> Inquiry<'a> for Show<'a> {
     }
 
     #[tactic(auto, unfolding(crate::specs::Show::show_report))]
-    fn report(self, alloc: Global, land: &RecipeLand) -> Result<Report, Stop<'a>> {
+    fn report(self, alloc: Global, land: &RecipeLand) -> Result<Report<'a>, Stop<'a>> {
         let steps = recipe_from(land, self.steps)?;
         let shown = shown_of(land, steps);
         let text = show_text(alloc, land.job(), &shown)?;
         Ok(Report {
             conclusion: Conclusion::Judged(shown.whole),
             text,
+            written: None,
         })
     }
 }

@@ -7,9 +7,9 @@ use std::alloc::{AllocError, Global};
 use std::process::Abort;
 use std::test::Fail;
 
-const TOP: &str = "curves = \"flat.csv\"\nstandard = \"p30\"\n";
+pub(crate) const TOP: &str = "curves = \"flat.csv\"\nstandard = \"p30\"\n";
 
-const LIGHT: &str = "[[light]]\nweights = \"w.csv\"\ntolerance = 10\n";
+pub(crate) const LIGHT: &str = "[[light]]\nweights = \"w.csv\"\ntolerance = 10\n";
 
 /// The lines of a dye of one dyeing.
 fn dye(alloc: Global, name: &str, price: &str, curve: &str) -> Result<String, AllocError> {
@@ -20,7 +20,7 @@ fn dye(alloc: Global, name: &str, price: &str, curve: &str) -> Result<String, Al
 }
 
 /// A job on p50 with two dyes: U of this price and curve, and V of this price on p30.
-fn job(
+pub(crate) fn job(
     alloc: Global,
     top: &str,
     lights: &str,

@@ -9,7 +9,8 @@ use std::test::Fail;
 const USAGE: &str = "1 usage: dye ks CURVES COLUMN\n       dye xyz CURVES COLUMN WEIGHTS\n\
     \x20      dye lab CURVES COLUMN WEIGHTS\n\
     \x20      dye diff CURVES STANDARD SAMPLE WEIGHTS L10 C10 [TOL]\n\
-    \x20      dye show JOB STEPS\n";
+    \x20      dye show JOB STEPS\n       dye predict JOB CERT\n       dye correct JOB CERT\n\
+    \x20      dye check JOB CERT\n       dye demo NUMBER\n";
 
 #[test]
 fn words_of_no_form(rt: HostRuntime) -> Result<(), Fail> {

@@ -1,6 +1,9 @@
 use Rattle.shade_report.proofs.Refused.{refused_column}
 use Rattle.shade_report.proofs.refusal.put_refusal.Goals as goal
 
+pub returns-in-Usage : goal.returns-in-Usage
+returns-in-Usage g c = rw c.in-Usage.is (rw c.as_bytes.ensures.value at c.put_all.ensures)
+
 pub returns-in-NoColumn : goal.returns-in-NoColumn
 returns-in-NoColumn g c =
     rw c.in-NoColumn.is

@@ -1,5 +1,4 @@
-use Rattle.std.proofs.Common.{sym, subst}
-use Rattle.job_file.specs.ResolvedView.{resolved_view}
+use Rattle.std.proofs.Common.{rules, sym, subst}
 use Rattle.dye_run.specs.Asking.{Answers}
 use Rattle.dye_run.specs.Jobs.{asks_job}
 use Rattle.dye_run.specs.Outcome.{outcome_of}
@@ -20,3 +19,6 @@ returns-clause-input g c =
 
 pub returns-clause-reads : goal.returns-clause-reads
 returns-clause-reads g c = c.in_ok-resolved.ensures.reads (show_report (show_view c.args.self))
+
+pub returns-in_err-resolved-clause-input : goal.returns-in_err-resolved-clause-input
+returns-in_err-resolved-clause-input g c = let stops = c.in_err-resolved.ensures.input (show_report (show_view c.args.self)) in search rules

@@ -17,5 +17,6 @@ returns c = (
     conclusion = ap (λ v. Judged v.whole) c.shown_of-shown.ensures;
     text = c.in_ok-text.ensures ∙ (λ i. show_text (c.job.ensures.is i) (c.shown_of-shown.ensures i));
     written = refl;
+    searched = tt;
   },
 )

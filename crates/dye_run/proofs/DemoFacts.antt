@@ -1,0 +1,140 @@
+-- The generated job of a number, as it is read.
+use Rattle.std.proofs.Common.{◌≡◌, ◌⊎◌, ◌≤◌, ℕ, List, [], ◌∷◌, length, map, Option, Some, None, All, IfSome, IfOk, IfErr, Result, Ok, Err, refl, sym, ap, ◌∙◌, inl, inr, subst}
+use Rattle.std.specs.Global.{Vec}
+use Rattle.std.specs.Option.{ForSome}
+use Rattle.std.proofs.lemmas.List.Elements.{All-cons, All-nil}
+use Rattle.box_cert.specs.Spelling.{Content}
+use Rattle.box_specs.specs.declared.certificate.Claim.{Claim}
+use Rattle.box_specs.specs.declared.certificate.Claim.TheVariants.{Floor, Match, NoMatch}
+use Rattle.cert_laws.specs.Laws.{content_of}
+use Rattle.demo_jobs.specs.Accepted.{IsAccepted}
+use Rattle.demo_jobs.specs.CurveText.{job_book}
+use Rattle.demo_jobs.specs.Dyes.{drawn_dyes}
+use Rattle.demo_jobs.specs.Values.{both_weights, job_values, resolved_of}
+use Rattle.job_file.specs.Job.{Values}
+use Rattle.job_file.specs.JobView.{job_view}
+use Rattle.job_file.specs.Resolve.{ResolvedJob}
+use Rattle.job_file.specs.declared.job.Job.{Job}
+use Rattle.job_file.specs.declared.top.BatchRule.TheVariants.{Without}
+use Rattle.shade_report.specs.Outcomes.{GoesWith}
+use Rattle.dye_run.specs.Check.{valid_from}
+use Rattle.dye_run.specs.Endings.{IsSearchable}
+use Rattle.dye_run.specs.Files.{FitsFiles}
+use Rattle.dye_run.specs.Inputs.{table_from}
+use Rattle.dye_run.specs.Jobs.{JobTables, job_from, job_tables_from, resolved_from, unless_broken, weights_after}
+use Rattle.dye_run.specs.Judging.{Gives, stop_outcome}
+use Rattle.dye_run.specs.Outcome.{Fault, Outcome, refused}
+use Rattle.dye_run.specs.Answers.{Report}
+use Rattle.dye_run.specs.Demo.{matched_cost, summary_text}
+use Rattle.dye_run.specs.Search.{conclusion_of, result_for}
+use Rattle.dye_run.specs.Views.{came_view}
+use Rattle.dye_run.specs.declared.jobs.CameFiles.{CameFiles}
+use Rattle.dye_run.specs.declared.stop.Stop.{Stop}
+use Rattle.dye_run.proofs.Headline.{is_valid}
+
+module _ (drawn text curves first second : List ℕ) (a : IsAccepted drawn text curves first second) where
+  abbrev values : Values
+  values = job_values (drawn_dyes drawn)
+
+  abbrev tables : JobTables
+  tables = record { book = job_book drawn; weights = both_weights }
+
+  pub job_accepted : (name : List ℕ) → job_from Without name (Some text) ≡ Ok (job_values (drawn_dyes drawn))
+  unfolding job_from
+  job_accepted name = ap (unless_broken name) a.job_read
+
+  pub tables_accepted : job_tables_from (job_values (drawn_dyes drawn)) (Some curves) (Some first ∷ Some second ∷ []) ≡ Ok (record { book = job_book drawn; weights = both_weights })
+  unfolding job_tables_from weights_after table_from
+  tables_accepted = rw (a.curves_read, a.first_read, a.second_read) refl
+
+  pub job_resolves : (name : List ℕ) → resolved_from name (job_values (drawn_dyes drawn)) (record { book = job_book drawn; weights = both_weights }) ≡ Ok (resolved_of drawn)
+  job_resolves name = ap (unless_broken name) a.job_resolved
+
+ok_same : {A : Type 0} (step : Result A Fault) (x y : A) → step ≡ Ok x → step ≡ Ok y → x ≡ y
+ok_same step x y e f = cc
+
+module _ (drawn text curves first second : List ℕ) (a : IsAccepted drawn text curves first second) where
+  pub job_from_slice : (slice : List ℕ) → slice ≡ text → (name : List ℕ) → job_from Without name (Some slice) ≡ Ok (job_values (drawn_dyes drawn))
+  job_from_slice slice is name = ap (λ t. job_from Without name (Some t)) is ∙ job_accepted drawn text curves first second a name
+
+  pub job_is : (slice : List ℕ) → slice ≡ text → (name : List ℕ) (j : Values) → job_from Without name (Some slice) ≡ Ok j → j ≡ job_values (drawn_dyes drawn)
+  job_is slice is name j e = ok_same (job_from Without name (Some slice)) j (job_values (drawn_dyes drawn)) e (job_from_slice slice is name)
+
+  pub tables_are : (j : Values) (came : Option (List ℕ)) (others : List (Option (List ℕ))) → j ≡ job_values (drawn_dyes drawn) → came ≡ Some curves → others ≡ Some first ∷ Some second ∷ []
+      → job_tables_from j came others ≡ Ok (record { book = job_book drawn; weights = both_weights })
+  tables_are j came others is c w = (λ i. job_tables_from (is i) (c i) (w i)) ∙ tables_accepted drawn text curves first second a
+
+  pub tables_view_is : (j : Values) (came : Option (List ℕ)) (others : List (Option (List ℕ))) (t : JobTables) → j ≡ job_values (drawn_dyes drawn) → came ≡ Some curves → others ≡ Some first ∷ Some second ∷ []
+      → job_tables_from j came others ≡ Ok t → t ≡ record { book = job_book drawn; weights = both_weights }
+  tables_view_is j came others t is c w e = ok_same (job_tables_from j came others) t (record { book = job_book drawn; weights = both_weights }) e (tables_are j came others is c w)
+
+  pub resolves : (name : List ℕ) (j : Values) (t : JobTables) → j ≡ job_values (drawn_dyes drawn) → t ≡ record { book = job_book drawn; weights = both_weights } → resolved_from name j t ≡ Ok (resolved_of drawn)
+  resolves name j t is e = (λ i. resolved_from name (is i) (e i)) ∙ job_resolves drawn text curves first second a name
+
+-- a step that gives a value does not refuse
+pub not_refused : {A : Type 0} (why : Option Outcome) (step : Result A Fault) (x : A) → step ≡ Ok x → IfSome why (λ o. (fault : Fault) × (o ≡ refused fault) × (step ≡ Err fault)) → why ≡ None
+not_refused (Some o) step x e h = let f = h.2 in cc
+not_refused None step x e h = refl
+
+pub not_owned : (why owned : Option Outcome) → (owned ≡ why) ⊎ (owned ≡ None) → why ≡ None → owned ≡ None
+not_owned why owned (inl same) none = same ∙ none
+not_owned why owned (inr none) h = none
+
+-- what a step gives is its value
+pub gives_value : {A X : Type 0} (view : X → A) (result : Result X Stop) (step : Result A Fault) (x : A) → step ≡ Ok x → Gives view result step → IfOk result (λ r. view r ≡ x)
+gives_value view (Ok r) step x e gives = ok_same step (view r) x gives e
+gives_value view (Err why) step x e gives = tt
+
+pub gives_no_refusal : {A X : Type 0} (view : X → A) (result : Result X Stop) (step : Result A Fault) (x : A) → step ≡ Ok x → Gives view result step → IfErr result (λ why. stop_outcome why ≡ None)
+gives_no_refusal view (Ok r) step x e gives = tt
+gives_no_refusal view (Err why) step x e gives = not_refused (stop_outcome why) step x e gives
+
+-- ---- the files of a generated job fit it
+
+short_curves : (came : Option (Vec ℕ)) (text : List ℕ) → came_view came ≡ Some text → length text ≤ 1000000 → ForSome came (λ bytes. length bytes.items ≤ 1000000)
+short_curves came text e h = λ x is.
+    let both : came_view (Some x) ≡ Some text = ap came_view (sym is) ∙ e in
+    let same : x.items ≡ text = cc in
+    subst (λ t. length t ≤ 1000000) (sym same) h
+
+short_came : (came : Option (Vec ℕ)) (text : List ℕ) → came_view came ≡ Some text → length text ≤ 1000000 → IfSome came (λ bytes. length bytes.items ≤ 1000000)
+short_came (Some b) text e h = let same : b.items ≡ text = cc in subst (λ t. length t ≤ 1000000) (sym same) h
+short_came None text e h = tt
+
+abbrev IsShort : Option (Vec ℕ) → Type 0
+IsShort c = IfSome c (λ bytes. length bytes.items ≤ 1000000)
+
+two_came : (came : List (Option (Vec ℕ))) (first second : List ℕ) → map came_view came ≡ Some first ∷ Some second ∷ [] → length first ≤ 1000000 → length second ≤ 1000000 → (length came ≡ 2) × All IsShort came
+two_came [] first second e h k = absurd (let f : [] ≡ Some first ∷ Some second ∷ [] = e in cc)
+two_came (a ∷ []) first second e h k = absurd (let f : came_view a ∷ [] ≡ Some first ∷ Some second ∷ [] = e in cc)
+two_came (a ∷ (b ∷ [])) first second e h k =
+    let one : came_view a ≡ Some first = cc in
+    let two : came_view b ≡ Some second = cc in
+    (refl, All-cons IsShort a (b ∷ []) (short_came a first one h) (All-cons IsShort b [] (short_came b second two k) (All-nil IsShort)))
+two_came (a ∷ (b ∷ (c ∷ rest))) first second e h k = absurd (let f : came_view a ∷ (came_view b ∷ (came_view c ∷ map came_view rest)) ≡ Some first ∷ Some second ∷ [] = e in cc)
+
+pub generated_fit : (drawn text curves first second : List ℕ) → IsAccepted drawn text curves first second → (job : Job) (came : CameFiles) → job_view job ≡ job_values (drawn_dyes drawn) → came_view came.curves ≡ Some curves
+    → map came_view came.weights.items ≡ Some first ∷ Some second ∷ [] → FitsFiles (length job.light.items) came
+generated_fit drawn text curves first second a job came is c w =
+    let two = two_came came.weights.items first second w a.first_short a.second_short in
+    let lights : length job.light.items ≡ 2 = ap (λ j. length j.light) is in
+    record { curves = short_curves came.curves curves c a.curves_short; count = two.0 ∙ sym lights; short = two.1 }
+
+-- ---- the certificate of a search is not refused
+
+pub never_refused : (r : ResolvedJob) (c : Content) → IsSearchable r → c ≡ content_of (result_for r) → valid_from r c ≡ Ok (content_of (result_for r))
+never_refused r c h same = ap (valid_from r) same ∙ is_valid r h
+
+pub same_content : (r : ResolvedJob) (c valid : Content) → IsSearchable r → c ≡ content_of (result_for r) → valid_from r c ≡ Ok valid → valid ≡ content_of (result_for r)
+same_content r c valid h same e = ok_same (valid_from r c) valid (content_of (result_for r)) e (never_refused r c h same)
+
+-- ---- the report
+
+abbrev pub demo_report_is : ℕ → ResolvedJob → Report
+demo_report_is number r = record { conclusion = conclusion_of (result_for r).claim; text = summary_text number r (result_for r); evaluations = []; written = None; recipes = Some r }
+
+-- a cost goes with a match
+pub cost_goes : (r : ResolvedJob) (claim : Claim) → GoesWith claim (matched_cost r claim)
+cost_goes r (Match recipe) = refl
+cost_goes r NoMatch = refl
+cost_goes r (Floor cost) = refl

@@ -1,0 +1,44 @@
+-- How a report is delivered: its file first, and then its text.
+use Rattle.std.specs.Prelude.{◌≡◌, ℕ, List, Option, Some, None, IsTrue, length, option_map, true}
+use Rattle.std.specs.Io.KnownBytes.{append_known}
+use Rattle.shelf_io.specs.Changes.{OnlyWrites}
+use Rattle.shelf_io.specs.Contents.{write_bytes}
+use Rattle.shelf_io.specs.Counts.{CountsFailure}
+use Rattle.shelf_io.specs.Taking.{AddsPrefix}
+use Rattle.shelf_io.specs.View.{ShelfView, SinkView}
+use Rattle.dye_run.specs.Endings.{FailsToWrite, World, not_written_status}
+use Rattle.dye_run.specs.Outcome.{not_written, text_of}
+
+-- A text was put, and its status is the result. Or the put failed, which was not promised to succeed, and the result is the
+-- status of that
+pub data Prints (text : List ℕ) (status : ℕ) (before after : SinkView) (result : ℕ) : Type 0 where
+  whole : after.taken ≡ append_known before.taken text
+      → after.faults ≡ before.faults
+      → result ≡ status
+      → Prints text status before after result
+  cut : AddsPrefix before.taken after.taken text
+      → CountsFailure true before.faults after.faults
+      → result ≡ not_written_status
+      → (IsTrue (before.puts_promised (length text)) → ⊥)
+      → Prints text status before after result
+
+-- the file was written whole, where there is one, and nothing else was
+pub record WritesFile (name bytes : List ℕ) (before after : ShelfView) : Type 0 where
+  pub contents : after.contents ≡ option_map (write_bytes name bytes) before.contents
+  pub only : OnlyWrites name (length bytes) before after
+
+abbrev pub IsWritten : Option (List ℕ × List ℕ) → (before after : ShelfView) → Type 0
+IsWritten None before after = after ≡ before
+IsWritten (Some file) before after = WritesFile file.0 file.1 before after
+
+-- The file was written and then the text was printed; or the file could not be written, and that was printed
+pub data Delivers (file : Option (List ℕ × List ℕ)) (text : List ℕ) (status : ℕ) (before after : World) (result : ℕ) : Type 0 where
+  printed : IsWritten file before.shelf after.shelf
+      → Prints text status before.sink after.sink result
+      → Delivers file text status before after result
+  spoiled : (name bytes : List ℕ)
+      → file ≡ Some (name, bytes)
+      → FailsToWrite before.shelf after.shelf name bytes
+      → OnlyWrites name (length bytes) before.shelf after.shelf
+      → Prints (text_of (not_written name)) not_written_status before.sink after.sink result
+      → Delivers file text status before after result

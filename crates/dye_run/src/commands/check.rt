@@ -1,0 +1,88 @@
+//! `check`: whether a certificate is valid for a job.
+
+ghost use Rattle.std.specs.Prelude.{◌≡◌, ◌≤◌, length};
+ghost use Rattle.box_cert.specs.Spelling.{content};
+ghost use Rattle.recipe_judge.specs.Recipes.{recipe_land};
+ghost use Rattle.dye_run.specs.Check.{cert_from, check_report, check_rule, valid_from};
+ghost use Rattle.dye_run.specs.Jobs.{asks_cert};
+ghost use Rattle.dye_run.specs.Judging.{Gives};
+
+use crate::cert_files::{WithCert, read_with_cert};
+use crate::cert_words::CertWords;
+use crate::inquiry::Inquiry;
+use crate::recipes::budget_of;
+use crate::report::{Report, plain_report};
+use crate::stop::Stop;
+use box_cert::{CertError, read_cert};
+use box_core::{Cert, Checked, Evals, Landscape};
+use cert_check::check;
+use job_file::BatchRule;
+use recipe_judge::RecipeLand;
+use shade_report::{Refusal, accepted_text};
+use shelf_io::Shelf;
+use std::alloc::Global;
+
+/// JOB CERT.
+#[derive(Clone, Copy)]
+pub(crate) struct Check<'a>(pub CertWords<'a>);
+
+/// The recipes of a job, and the text of a certificate.
+#[derive(Drop)]
+pub(crate) struct CertInput {
+    land: RecipeLand,
+    text: Vec<u8>,
+    ghost short: { length text.items ≤ 64000000 },
+}
+
+/// The certificate that a text spells.
+#[tactic(auto, unfolding(crate::specs::Check::cert_from))]
+fn cert_from<'a>(alloc: Global, land: &RecipeLand, text: &[u8]) -> Result<Cert, Stop<'a>>
+    requires { length text.now ≤ 64000000 }
+    ensures { Gives content result
+        (cert_from (length (recipe_land land.now).top.lo) text.now) }
+{
+    let _ = land.top(); // called for its contract alone: there are 1 to 12 dyes
+    match read_cert(alloc, text, land.dims()) {
+        Ok(cert) => Ok(cert),
+        Err(CertError::Fault(fault)) => Err(Stop::Refused(Refusal::CertGrammar(fault))),
+        Err(CertError::Memory) => Err(Stop::Memory),
+    }
+}
+
+/// The same certificate, where it is valid for the recipes of a job.
+#[tactic(auto, unfolding(crate::specs::Check::valid_from))]
+pub(crate) fn valid_from<'a>(alloc: Global, land: &RecipeLand, cert: Cert) -> Result<Cert, Stop<'a>>
+    ensures { Gives content result (valid_from land.now (content cert)) }
+{
+    let mut meter = Evals::default();
+    match check(alloc, land, &cert, &mut meter)? {
+        Checked::Accepted => Ok(cert),
+        Checked::Refused { line, why } => Err(Stop::Refused(Refusal::CertWrong(line, why))),
+    }
+}
+
+impl<'a> Inquiry<'a> for Check<'a> {
+    type Input = CertInput;
+
+    ghost asking = { λ c. asks_cert check_rule c.0.job.now c.0.cert.text.now check_report };
+
+    ghost judged = { λ c input. check_report input.land input.text.items };
+
+    fn read<H: Shelf>(self, alloc: Global, shelf: &mut H) -> Result<CertInput, Stop<'a>> {
+        let Check(words) = self;
+        let came = read_with_cert(alloc, shelf, BatchRule::Either, words.job, words.cert.text)?;
+        let WithCert { resolved, text } = came;
+        let land = RecipeLand::of_job(alloc, resolved)?;
+        Ok(CertInput { land, text })
+    }
+
+    #[tactic(auto, unfolding(crate::specs::Check::check_report))]
+    fn report(self, alloc: Global, input: &CertInput) -> Result<Report<'a>, Stop<'a>> {
+        let cert = cert_from(alloc, &input.land, input.text.as_slice())?;
+        let valid = valid_from(alloc, &input.land, cert)?;
+        let _ = budget_of(&input.land); // for its contract alone: they can be searched
+        let mut text = Vec::new(alloc);
+        text.extend_from_slice(accepted_text(&valid.claim).as_bytes())?;
+        Ok(plain_report(text))
+    }
+}
