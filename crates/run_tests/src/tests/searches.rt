@@ -35,7 +35,7 @@ fn assert_finds(
     rt: &impl Abort,
     alloc: Global,
     files: &[(&str, &[u8])],
-    words: &[&str],
+    words: &[&str; 3],
     want: &str,
     cert: &str,
 ) -> Result<(), Fail> {
