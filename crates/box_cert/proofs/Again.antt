@@ -1,4 +1,4 @@
--- What is spelled so is read.
+-- The spelling of a certificate is read as that certificate.
 use Rattle.std.proofs.Common.{◌≡◌, ◌&&◌, ℕ, zero, suc, ◌+◌, ◌≤◌, ◌^◌, Bool, true, false, not, All, List, [], ◌∷◌, ◌++◌, length, refl, sym, ap, ◌∙◌, arith, append_assoc, decimal, if◌then◌else◌}
 use Rattle.std.specs.Prelude.{Option, Some, None, Ok, option_map, option_and_then, codes}
 use Rattle.std.proofs.lemmas.Bool.{false≢true}
@@ -13,11 +13,11 @@ use Rattle.box_specs.specs.declared.certificate.CertRule.{CertRule}
 use Rattle.box_specs.specs.declared.certificate.CertRule.TheVariants.{BadClaim, BadHeader, BadLine}
 use Rattle.box_specs.specs.declared.certificate.Claim.{Claim}
 use Rattle.box_specs.specs.declared.certificate.Claim.TheVariants.{Floor, Match, NoMatch}
-use Rattle.box_cert.specs.Lines.{cut_at, in_front, is_mark, line_of, numbers_at, recipe_of}
+use Rattle.box_cert.specs.Lines.{cut_at, is_mark, line_of, number_before, numbers_at, recipe_of}
 use Rattle.box_cert.specs.Numbers.{number_of}
-use Rattle.box_cert.specs.Spelling.{Content, cert_text, claim_text, count_text, ended, head_text, line_text, lines_text, numbers_text, recipes_text}
-use Rattle.box_cert.specs.Text.{◌>>=◌, IsCertFor, HasDims, cert_of, claim_of, count_of, header_of, lines_of, next_of, parts_of, place_of, recipes_at, said, trees_at}
-use Rattle.box_cert.proofs.Fronts.{onto, shape_on, trees_next}
+use Rattle.box_cert.specs.Spelling.{Content, as_line, cert_text, claim_text, count_text, head_text, line_text, lines_text, numbers_text, recipes_text}
+use Rattle.box_cert.specs.Text.{◌>>=◌, IsCertFor, HasDims, cert_of, claim_of, count_of, header_of, lines_of, next_of, parts_of, cursor_of, recipes_at, line_result, trees_at}
+use Rattle.box_cert.proofs.Prefixes.{onto, shape_on, trees_next}
 use Rattle.box_cert.proofs.Numerals.{decimal_free, has_no, number_again}
 use Rattle.box_cert.proofs.Parts.{cert_parts}
 use Rattle.box_cert.proofs.Takes.{regrouped}
@@ -42,7 +42,7 @@ not_false false h = refl
 same_mark : (mark : ℕ) → is_mark mark mark ≡ true
 same_mark mark = grind (arith, nat_tests)
 
--- a text with no mark, and the mark behind it
+-- a text with no mark, and the mark after it
 pub cut_again : (mark : ℕ) (w r : List ℕ) → has_no mark w ≡ true → cut_at mark (w ++ (mark ∷ r)) ≡ Some (w, r)
 cut_again mark [] r h = ap (λ q. if q then Some ([], r) else option_map (λ s. (mark ∷ s.0, s.1)) (cut_at mark r)) (same_mark mark)
 cut_again mark (b ∷ bs) r h =
@@ -78,8 +78,8 @@ numbers_again (suc k) (n ∷ []) e h = absurd (omega arith)
 numbers_again (suc k) (n ∷ (m ∷ ns)) e h =
     let f = head_fits n (m ∷ ns) h in
     let rest = numbers_again k (m ∷ ns) (omega arith) (tail_fits n (m ∷ ns) h) in
-    ap (option_and_then (λ r. in_front (number_of 0 4000 r.0) (numbers_at k r.1))) (cut_again 32 (decimal n) (numbers_text (m ∷ ns)) (decimal_free 32 n (omega arith) (omega arith)))
-    ∙ ap (λ o. in_front o (numbers_at k (numbers_text (m ∷ ns)))) (small n f) ∙ ap (in_front (Some n)) rest
+    ap (option_and_then (λ r. number_before (number_of 0 4000 r.0) (numbers_at k r.1))) (cut_again 32 (decimal n) (numbers_text (m ∷ ns)) (decimal_free 32 n (omega arith) (omega arith)))
+    ∙ ap (λ o. number_before o (numbers_at k (numbers_text (m ∷ ns)))) (small n f) ∙ ap (number_before (Some n)) rest
 
 pub recipe_again : (dims : ℕ) (ns : List ℕ) → 1 ≤ dims → length ns ≡ dims → StepsFit ns → recipe_of dims (numbers_text ns) ≡ Some ns
 recipe_again zero ns some e h = absurd (omega arith)
@@ -115,7 +115,7 @@ line_free Dear h = refl
 line_free Undecided h = refl
 line_free Pass h = refl
 
--- the claim, and how many recipes are listed
+-- the claim, and the number of listed recipes
 claim_again : (dims : ℕ) (claim : Claim) → 1 ≤ dims → HasDims dims claim → ClaimFits claim → claim_of dims (claim_text claim) ≡ Some claim
 claim_again dims (Match recipe) some e h = ap (option_map (λ ns. Match (record { items = ns }))) (recipe_again dims recipe.items some e h)
 claim_again dims NoMatch some e h = refl
@@ -133,59 +133,59 @@ count_free : (count : ℕ) → count ≤ 1000000 → has_no 10 (count_text count
 count_free count h = decimal_free 10 count (omega arith) (omega (arith, h))
 
 -- a line with its line feed
-lines_again : (line text : List ℕ) → has_no 10 line ≡ true → lines_of (ended line ++ text) ≡ (line ∷ (lines_of text).0, (lines_of text).1)
+lines_again : (line text : List ℕ) → has_no 10 line ≡ true → lines_of (as_line line ++ text) ≡ (line ∷ (lines_of text).0, (lines_of text).1)
 lines_again line text h =
     ap lines_of (append_assoc line (10 ∷ []) text) ∙ lines_cut (line ++ (10 ∷ text)) ∙ ap (split_at (line ++ (10 ∷ text))) (cut_again 10 line text h)
 
 next_again : {A : Type 0} (rule : CertRule) (kind : List ℕ → Option A) (n : ℕ) (line text : List ℕ) (x : A) → has_no 10 line ≡ true → kind line ≡ Some x
-    → next_of rule kind (place_of n (ended line ++ text)) ≡ Ok (x, place_of (n + 1) text)
+    → next_of rule kind (cursor_of n (as_line line ++ text)) ≡ Ok (x, cursor_of (n + 1) text)
 next_again rule kind n line text x h e =
     ap (λ r. next_of rule kind (record { number = n; lines = r.0; left = r.1 })) (lines_again line text h)
-    ∙ ap (λ o. said n rule o (place_of (n + 1) text)) e
+    ∙ ap (λ o. line_result n rule o (cursor_of (n + 1) text)) e
 
 recipes_again : (dims n : ℕ) (xs : List (List ℕ)) (text : List ℕ) → 1 ≤ dims → All (λ s. length s ≡ dims) xs → All StepsFit xs
-    → recipes_at dims (length xs) (place_of n (recipes_text xs ++ text)) ≡ Ok (xs, place_of (n + length xs) text)
-recipes_again dims n [] text some len fits = let e : n ≡ n + 0 = omega arith in ap (λ k. Ok ([], place_of k text)) e
+    → recipes_at dims (length xs) (cursor_of n (recipes_text xs ++ text)) ≡ Ok (xs, cursor_of (n + length xs) text)
+recipes_again dims n [] text some len fits = let e : n ≡ n + 0 = omega arith in ap (λ k. Ok ([], cursor_of k text)) e
 recipes_again dims n (x ∷ xs) text some len fits =
     let l : length x ≡ dims = len 0 [] (omega arith) in
     let f : StepsFit x = fits 0 [] (omega arith) in
     let e : (n + 1) + length xs ≡ n + suc (length xs) = omega arith in
-    ap (λ t. recipes_at dims (suc (length xs)) (place_of n t)) (append_assoc (ended (numbers_text x)) (recipes_text xs) text)
+    ap (λ t. recipes_at dims (suc (length xs)) (cursor_of n t)) (append_assoc (as_line (numbers_text x)) (recipes_text xs) text)
     ∙ ap (λ r. r >>= λ r. recipes_at dims (length xs) r.1 >>= λ rs. Ok (r.0 ∷ rs.0, rs.1))
     (next_again BadLine (recipe_of dims) n (numbers_text x) (recipes_text xs ++ text) x (numbers_free x f) (recipe_again dims x some l f))
     ∙ ap (onto x) (recipes_again dims (n + 1) xs text some (λ k d h. len (suc k) d (omega arith)) (λ k d h. fits (suc k) d (omega arith)))
-    ∙ ap (λ k. Ok (x ∷ xs, place_of k text)) e
+    ∙ ap (λ k. Ok (x ∷ xs, cursor_of k text)) e
 
 trees_again : (k n : ℕ) (ls : List CertLine) (text : List ℕ) → are_trees k ls ≡ true → All LineFits ls
-    → trees_at k (place_of n (lines_text ls ++ text)) ≡ Ok (ls, place_of (n + length ls) text)
-trees_again zero n [] text h fits = let e : n ≡ n + 0 = omega arith in ap (λ k. Ok ([], place_of k text)) e
+    → trees_at k (cursor_of n (lines_text ls ++ text)) ≡ Ok (ls, cursor_of (n + length ls) text)
+trees_again zero n [] text h fits = let e : n ≡ n + 0 = omega arith in ap (λ k. Ok ([], cursor_of k text)) e
 trees_again (suc k) n [] text h fits = absurd (false≢true h)
 trees_again zero n (l ∷ ls) text h fits = absurd (false≢true h)
 trees_again (suc k) n (l ∷ ls) text h fits =
     let f : LineFits l = fits 0 Dear (omega arith) in
     let e : (n + 1) + length ls ≡ n + suc (length ls) = omega arith in
-    let p = place_of n (ended (line_text l) ++ (lines_text ls ++ text)) in
-    ap (λ t. trees_at (suc k) (place_of n t)) (append_assoc (ended (line_text l)) (lines_text ls) text)
+    let p = cursor_of n (as_line (line_text l) ++ (lines_text ls ++ text)) in
+    ap (λ t. trees_at (suc k) (cursor_of n t)) (append_assoc (as_line (line_text l)) (lines_text ls) text)
     ∙ trees_next k n p.lines p.left
     ∙ ap (λ r. r >>= λ r. onto r.0 (trees_at (parts_of r.0 + k) r.1)) (next_again BadLine line_of n (line_text l) (lines_text ls ++ text) l (line_free l f) (line_again l f))
     ∙ ap (onto l) (trees_again (parts_of l + k) (n + 1) ls text (sym (shape_on k l ls) ∙ h) (λ i d j. fits (suc i) d (omega arith)))
-    ∙ ap (λ k. Ok (l ∷ ls, place_of k text)) e
+    ∙ ap (λ k. Ok (l ∷ ls, cursor_of k text)) e
 
 -- the spelling of a certificate is read as that certificate
 pub cert_again : (dims : ℕ) (c : Content) → 1 ≤ dims → IsCertFor dims c → cert_of dims (cert_text c) ≡ Ok c
 unfolding cert_text head_text
 cert_again dims c some h =
     let count = length c.listed in
-    let A = ended (codes "dye-cert 1") in
-    let B = ended (claim_text c.claim) in
-    let C = ended (count_text count) in
+    let A = as_line (codes "dye-cert 1") in
+    let B = as_line (claim_text c.claim) in
+    let C = as_line (count_text count) in
     let R = recipes_text c.listed in
     let L = lines_text c.lines in
     let T = A ++ (B ++ (C ++ (R ++ (L ++ [])))) in
     let same : cert_text c ≡ T = sym (regrouped A B C R L) ∙ ap (λ t. A ++ (B ++ (C ++ (R ++ t)))) (sym (append-nil L)) in
     ap (cert_of dims) same
-    ∙ cert_parts dims T c.claim count c.listed c.lines (place_of 2 (B ++ (C ++ (R ++ (L ++ []))))) (place_of 3 (C ++ (R ++ (L ++ [])))) (place_of 4 (R ++ (L ++ [])))
-    (place_of (4 + count) (L ++ [])) (place_of (4 + count + length c.lines) [])
+    ∙ cert_parts dims T c.claim count c.listed c.lines (cursor_of 2 (B ++ (C ++ (R ++ (L ++ []))))) (cursor_of 3 (C ++ (R ++ (L ++ [])))) (cursor_of 4 (R ++ (L ++ [])))
+    (cursor_of (4 + count) (L ++ [])) (cursor_of (4 + count + length c.lines) [])
     (next_again BadHeader header_of 1 (codes "dye-cert 1") (B ++ (C ++ (R ++ (L ++ [])))) tt refl refl)
     (next_again BadClaim (claim_of dims) 2 (claim_text c.claim) (C ++ (R ++ (L ++ []))) c.claim (claim_free c.claim h.numbers) (claim_again dims c.claim some h.claim h.numbers))
     (next_again BadClaim count_of 3 (count_text count) (R ++ (L ++ [])) count (count_free count h.few) (count_again count h.few))

@@ -1,13 +1,13 @@
--- Numbers counted only up to a cap.
+-- Numbers that are read only up to a cap.
 use Rattle.std.proofs.Common.{◌≡◌, ℕ, ◌+◌, ◌-◌, ◌*◌, ◌<◌, min, List, [], ◌∷◌, length, drop, get_or, refl, sym, ap, ◌∙◌, arith, add-one, drop-cons}
 use Rattle.dec_text.specs.Decimal.{digits_from}
 
--- what is the same below the cap stays so as digits follow
+-- two numbers that are the same up to the cap stay so with more digits
 capped_same : (most m n : ℕ) (ds : List ℕ) → min most m ≡ min most n → min most (digits_from m ds) ≡ min most (digits_from n ds)
 capped_same most m n [] e = e
 capped_same most m n (d ∷ ds) e = capped_same most (10 * m + (d - 48)) (10 * n + (d - 48)) ds (omega arith)
 
--- one digit more
+-- one more digit
 digit_more : (n i : ℕ) (s : List ℕ) → i < length s → digits_from n (drop i s) ≡ digits_from (10 * n + (get_or s i 0 - 48)) (drop (i + 1) s)
 digit_more n i s h = rw (add-one, drop-cons s i 0) refl
 

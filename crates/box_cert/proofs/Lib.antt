@@ -5,7 +5,7 @@ mod Pieces
 mod Certs
 mod Wholes
 mod TextLines
-mod Fronts
+mod Prefixes
 mod Steps
 mod Parts
 mod Numerals

@@ -62,7 +62,7 @@ alone (d ∷ (x ∷ ds)) h e = absurd (false≢true (sym (ap (λ k. not (k == 48
 none_some : {A : Type 0} (x : A) → None ≡ Some x → ⊥
 none_some x h = cc
 
--- a word that is read as a number of a range is the digits of it
+-- a word that is read as a number of a range is the digits of that number
 pub record IsSpelled (least most : ℕ) (word : List ℕ) (n : ℕ) : Type 0 where
   pub is : word ≡ decimal n
   pub low : least ≤ n

@@ -13,20 +13,20 @@ use Rattle.shelf_io.proofs.Keeping.{writes_then}
 use Rattle.shelf_io.proofs.Written.{written_more}
 use Rattle.box_cert.specs.Writing.{Fails, GoesOn, GoesWrong, Holds, IsHeld}
 
--- a failure in a front of a text
+-- a failure within a text is one within a longer text that begins with it
 pub fails_more : (name text more : List ℕ) (start now : ShelfView) → Fails name text start now → Fails name (text ++ more) start now
 fails_more name text more start now f =
     let P : ℕ → Type 0 = λ k. IsTrue (start.writes_promised name k) in
     let never : (k : ℕ) → IsTrue (start.writes_promised name (length (text ++ more) + k)) → ⊥ =
     λ k h. let e : length (text ++ more) + k ≡ length text + (length more + k) = omega (arith, length-append text more) in f.unpromised (length more + k) (subst P e h) in
     record {
-      front = record { done = f.front.done; rest = f.front.rest ++ more; is = sym (append_assoc f.front.done f.front.rest more) ∙ ap (λ t. t ++ more) f.front.is; contents = f.front.contents };
+      prefix = record { done = f.prefix.done; rest = f.prefix.rest ++ more; is = sym (append_assoc f.prefix.done f.prefix.rest more) ∙ ap (λ t. t ++ more) f.prefix.is; contents = f.prefix.contents };
       only = record { reads = f.only.reads; handed = f.only.handed; files = f.only.files; grows = f.only.grows; others = f.only.others; reads_kept = f.only.reads_kept; writes_kept = λ k h. absurd (never k h) };
       counted = f.counted;
       unpromised = never;
     }
 
--- a piece that waits
+-- a piece is put after the waiting bytes
 pub on_waiting : (name waiting piece : List ℕ) (view : ShelfView) → GoesOn name piece waiting view (waiting ++ piece) view
 on_waiting name waiting piece view = λ start text h. record {
   done = h.done;
@@ -39,25 +39,25 @@ on_waiting name waiting piece view = λ start text h. record {
 pub on_nothing : (name waiting : List ℕ) (view : ShelfView) → GoesOn name [] waiting view waiting view
 on_nothing name waiting view = λ start text h. record { done = h.done; is = h.is ∙ sym (append-nil text); contents = h.contents; only = h.only; counted = h.counted }
 
--- a piece behind another one
+-- a piece is put after another one
 pub on_on : (name a b w0 w1 w2 : List ℕ) (old mid new : ShelfView) → GoesOn name a w0 old w1 mid → GoesOn name b w1 mid w2 new → GoesOn name (a ++ b) w0 old w2 new
 on_on name a b w0 w1 w2 old mid new f g = λ start text h.
     let P : List ℕ → Type 0 = λ t. Holds name w2 t start new in
     subst P (append_assoc text a b) (g start (text ++ a) (f start text h))
 
--- a failure behind a piece
+-- an append fails after a piece was put
 pub on_wrong : (name a b w0 w1 : List ℕ) (old mid new : ShelfView) → GoesOn name a w0 old w1 mid → GoesWrong name b w1 mid new → GoesWrong name (a ++ b) w0 old new
 on_wrong name a b w0 w1 old mid new f g = λ start text h.
     let P : List ℕ → Type 0 = λ t. Fails name t start new in
     subst P (append_assoc text a b) (g start (text ++ a) (f start text h))
 
--- a failure before the last piece
+-- an append fails before the last piece
 pub wrong_more : (name a b w0 : List ℕ) (old new : ShelfView) → GoesWrong name a w0 old new → GoesWrong name (a ++ b) w0 old new
 wrong_more name a b w0 old new f = λ start text h.
     let P : List ℕ → Type 0 = λ t. Fails name t start new in
     subst P (append_assoc text a b) (fails_more name (text ++ a) b start new (f start text h))
 
--- what waited was appended
+-- the waiting bytes were appended
 pub on_flushed : (name waiting : List ℕ) (old new : ShelfView) → AddsTo name waiting old.contents new.contents → OnlyWrites name (length waiting) old new
     → new.write_faults name ≡ old.write_faults name → GoesOn name [] waiting old [] new
 on_flushed name waiting old new adds only same = λ start text h.
@@ -70,7 +70,7 @@ on_flushed name waiting old new adds only same = λ start text h.
       counted = same ∙ h.counted;
     }
 
--- the append of what waited failed
+-- the append of the waiting bytes failed
 pub wrong_flush : (name waiting : List ℕ) (old new : ShelfView) → AddsPrefixTo name waiting old.contents new.contents → OnlyWrites name (length waiting) old new
     → CountsFailure true (old.write_faults name) (new.write_faults name) → ((more : ℕ) → IsTrue (old.writes_promised name (length waiting + more)) → ⊥)
     → GoesWrong name [] waiting old new
@@ -81,7 +81,7 @@ wrong_flush name waiting old new adds only counted unpromised = λ start text h.
     let Q : ℕ → Type 0 = λ n. CountsFailure true n (new.write_faults name) in
     let R : ℕ → Type 0 = λ n. IsTrue (start.writes_promised name n) in
     record {
-      front = record {
+      prefix = record {
         done = h.done ++ take k waiting;
         rest = drop k waiting;
         is = append_assoc h.done (take k waiting) (drop k waiting) ∙ ap (λ t. h.done ++ t) (take-append-drop k waiting) ∙ h.is ∙ sym (append-nil text);
@@ -102,7 +102,7 @@ still_some true piece None h = absurd (false≢true h)
 still_some true piece (Some bytes) h = refl
 still_some false piece o h = h
 
--- a held name is held after an append
+-- a file that is there is still there after an append
 pub held_more : (name piece : List ℕ) (old new : ShelfView) → IsHeld name old → AddsTo name piece old.contents new.contents → IsHeld name new
 held_more name piece old new held adds = go old.contents held adds.0 where
   go : (o : Option Contents) → ForSome o (λ c. IsSome (c.file name)) → new.contents ≡ option_map (add_piece name piece) o → ForSome new.contents (λ c. IsSome (c.file name))
@@ -125,7 +125,7 @@ joined_parts spell xs i = sym (ap (joined spell) (take-append-drop i xs)) ∙ fl
 
 module _ {X : Type 0} (spell : X → List ℕ) (xs : List X) (i : ℕ) (d : X) (name w0 w1 : List ℕ) (old mid new : ShelfView) (lt : i < length xs)
     (before : GoesOn name (joined spell (take i xs)) w0 old w1 mid) where
-  -- one item more was put
+  -- one more item was put
   pub item_next : (w2 : List ℕ) → GoesOn name (spell (get_or xs i d)) w1 mid w2 new → GoesOn name (joined spell (take (i + 1) xs)) w0 old w2 new
   item_next w2 next = rw (joined_more spell xs i d lt) (on_on name (joined spell (take i xs)) (spell (get_or xs i d)) w0 w1 w2 old mid new before next)
 

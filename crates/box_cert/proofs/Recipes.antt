@@ -2,11 +2,11 @@
 use Rattle.std.proofs.Common.{◌≡◌, ℕ, zero, suc, ◌+◌, ◌-◌, ◌<◌, ◌≤◌, List, [], ◌∷◌, ◌++◌, length, take, get_or, refl, sym, ap, ◌∙◌, arith, append_assoc, decimal}
 use Rattle.std.specs.Prelude.{Option, Some, None, option_map, option_and_then}
 use Rattle.std.proofs.lemmas.List.{take_more, append-nil}
-use Rattle.box_cert.specs.Lines.{cut_at, in_front, numbers_at, recipe_of}
+use Rattle.box_cert.specs.Lines.{cut_at, number_before, numbers_at, recipe_of}
 use Rattle.box_cert.specs.Numbers.{number_of}
 use Rattle.box_cert.specs.Spelling.{numbers_text}
 
--- one number more behind others, or the first one
+-- one more number after others, or the first one
 numbers_first : (n : ℕ) → numbers_text ([] ++ n ∷ []) ≡ decimal n
 numbers_first n = refl
 
@@ -35,44 +35,44 @@ pub recipe_at : (dims : ℕ) (line : List ℕ) → 1 ≤ dims → numbers_at (di
 recipe_at zero line h = absurd (omega arith)
 recipe_at (suc k) line h = let e : suc k - 1 ≡ k = omega arith in ap (λ n. numbers_at n line) e
 
-abbrev pub with_front : List ℕ → Option (List ℕ) → Option (List ℕ)
-with_front xs o = option_map (λ more. xs ++ more) o
+abbrev pub with_prefix : List ℕ → Option (List ℕ) → Option (List ℕ)
+with_prefix xs o = option_map (λ more. xs ++ more) o
 
-front_more : (xs : List ℕ) (n : ℕ) (o : Option (List ℕ)) → with_front (xs ++ n ∷ []) o ≡ with_front xs (option_map (λ more. n ∷ more) o)
-front_more xs n None = refl
-front_more xs n (Some more) = ap Some (append_assoc xs (n ∷ []) more)
+prefix_more : (xs : List ℕ) (n : ℕ) (o : Option (List ℕ)) → with_prefix (xs ++ n ∷ []) o ≡ with_prefix xs (option_map (λ more. n ∷ more) o)
+prefix_more xs n None = refl
+prefix_more xs n (Some more) = ap Some (append_assoc xs (n ∷ []) more)
 
 abbrev after_word : ℕ → List ℕ × List ℕ → Option (List ℕ)
-after_word k r = in_front (number_of 0 4000 r.0) (numbers_at k r.1)
+after_word k r = number_before (number_of 0 4000 r.0) (numbers_at k r.1)
 
 at_word : (k : ℕ) (rest : List ℕ) (o : Option (List ℕ × List ℕ)) → cut_at 32 rest ≡ o → numbers_at (suc k) rest ≡ option_and_then (after_word k) o
 at_word k rest o e = ap (option_and_then (after_word k)) e
 
-module _ (dims counter : ℕ) (steps rest : List ℕ) (all : Option (List ℕ)) (h : with_front steps (numbers_at (dims - counter) rest) ≡ all) where
+module _ (dims counter : ℕ) (steps rest : List ℕ) (all : Option (List ℕ)) (h : with_prefix steps (numbers_at (dims - counter) rest) ≡ all) where
   -- the word was the last one
   pub no_word : counter < dims → cut_at 32 rest ≡ None → None ≡ all
   no_word l e =
       let s : dims - counter ≡ suc (dims - (counter + 1)) = omega arith in
-      sym (ap (λ k. with_front steps (numbers_at k rest)) s ∙ ap (with_front steps) (at_word (dims - (counter + 1)) rest None e)) ∙ h
+      sym (ap (λ k. with_prefix steps (numbers_at k rest)) s ∙ ap (with_prefix steps) (at_word (dims - (counter + 1)) rest None e)) ∙ h
 
   -- the word is no number
   pub no_number : (word behind : List ℕ) → counter < dims → cut_at 32 rest ≡ Some (word, behind) → number_of 0 4000 word ≡ None → None ≡ all
   no_number word behind l e n =
       let s : dims - counter ≡ suc (dims - (counter + 1)) = omega arith in
-      sym (ap (λ k. with_front steps (numbers_at k rest)) s ∙ ap (with_front steps) (at_word (dims - (counter + 1)) rest (Some (word, behind)) e)
-      ∙ ap (λ o. with_front steps (in_front o (numbers_at (dims - (counter + 1)) behind))) n) ∙ h
+      sym (ap (λ k. with_prefix steps (numbers_at k rest)) s ∙ ap (with_prefix steps) (at_word (dims - (counter + 1)) rest (Some (word, behind)) e)
+      ∙ ap (λ o. with_prefix steps (number_before o (numbers_at (dims - (counter + 1)) behind))) n) ∙ h
 
-  -- one number more was read
+  -- one more number was read
   pub one_number : (word behind : List ℕ) (n : ℕ) → counter < dims → cut_at 32 rest ≡ Some (word, behind) → number_of 0 4000 word ≡ Some n
-      → with_front (steps ++ n ∷ []) (numbers_at (dims - (counter + 1)) behind) ≡ all
+      → with_prefix (steps ++ n ∷ []) (numbers_at (dims - (counter + 1)) behind) ≡ all
   one_number word behind n l e w =
       let s : dims - counter ≡ suc (dims - (counter + 1)) = omega arith in
-      front_more steps n (numbers_at (dims - (counter + 1)) behind)
-      ∙ sym (ap (λ k. with_front steps (numbers_at k rest)) s ∙ ap (with_front steps) (at_word (dims - (counter + 1)) rest (Some (word, behind)) e)
-      ∙ ap (λ o. with_front steps (in_front o (numbers_at (dims - (counter + 1)) behind))) w) ∙ h
+      prefix_more steps n (numbers_at (dims - (counter + 1)) behind)
+      ∙ sym (ap (λ k. with_prefix steps (numbers_at k rest)) s ∙ ap (with_prefix steps) (at_word (dims - (counter + 1)) rest (Some (word, behind)) e)
+      ∙ ap (λ o. with_prefix steps (number_before o (numbers_at (dims - (counter + 1)) behind))) w) ∙ h
 
   -- the last number
-  pub last_number : (o : Option ℕ) → dims ≤ counter → number_of 0 4000 rest ≡ o → with_front steps (option_map (λ n. n ∷ []) o) ≡ all
+  pub last_number : (o : Option ℕ) → dims ≤ counter → number_of 0 4000 rest ≡ o → with_prefix steps (option_map (λ n. n ∷ []) o) ≡ all
   last_number o l e =
       let s : dims - counter ≡ 0 = omega arith in
-      sym (ap (λ k. with_front steps (numbers_at k rest)) s ∙ ap (λ p. with_front steps (option_map (λ n. n ∷ []) p)) e) ∙ h
+      sym (ap (λ k. with_prefix steps (numbers_at k rest)) s ∙ ap (λ p. with_prefix steps (option_map (λ n. n ∷ []) p)) e) ∙ h

@@ -1,4 +1,4 @@
--- One line more of a list of recipes, and one line more of a tree.
+-- One more line of a list of recipes, and one more line of a tree.
 use Rattle.std.proofs.Common.{◌≡◌, ℕ, zero, suc, ◌+◌, ◌-◌, ◌<◌, ◌≤◌, List, [], ◌∷◌, ◌++◌, sym, ap, ◌∙◌, arith, append_assoc}
 use Rattle.std.specs.Prelude.{Result, Ok}
 use Rattle.std.proofs.lemmas.List.{append-nil}
@@ -8,35 +8,35 @@ use Rattle.box_specs.specs.declared.certificate.CertLine.{CertLine}
 use Rattle.box_specs.specs.declared.certificate.CertRule.TheVariants.{BadLine}
 use Rattle.box_cert.specs.declared.fault.CertError.{CertError}
 use Rattle.box_cert.specs.Lines.{line_of, recipe_of}
-use Rattle.box_cert.specs.Text.{◌>>=◌, FailsAs, Place, next_of, parts_of, recipes_at, trees_at}
-use Rattle.box_cert.proofs.Fronts.{fails_as, fails_then, front_more, onto, shape_on, trees_next, with_front}
+use Rattle.box_cert.specs.Text.{◌>>=◌, Cursor, FailsAs, next_of, parts_of, recipes_at, trees_at}
+use Rattle.box_cert.proofs.Prefixes.{fails_as, fails_then, onto, prefix_more, shape_on, trees_next, with_prefix}
 
-module _ (w : ℕ) (xs : List CertLine) (p : Place) (all : Result (List CertLine × Place) CertFault) (some : 0 < w) (h : with_front xs (trees_at w p) ≡ all) where
-  abbrev then_tree : CertLine × Place → Result (List CertLine × Place) CertFault
+module _ (w : ℕ) (xs : List CertLine) (p : Cursor) (all : Result (List CertLine × Cursor) CertFault) (some : 0 < w) (h : with_prefix xs (trees_at w p) ≡ all) where
+  abbrev then_tree : CertLine × Cursor → Result (List CertLine × Cursor) CertFault
   then_tree r = onto r.0 (trees_at (parts_of r.0 + (w - 1)) r.1)
 
   opened : trees_at w p ≡ (next_of BadLine line_of p >>= then_tree)
   opened = let e : w ≡ suc (w - 1) = omega (arith, some) in ap (λ v. trees_at v p) e ∙ trees_next (w - 1) p.number p.lines p.left
 
-  -- one line more was read
-  pub tree_step : (x : CertLine) (parts : ℕ) (q : Place) → next_of BadLine line_of p ≡ Ok (x, q) → parts ≡ parts_of x
-      → with_front (xs ++ x ∷ []) (trees_at (parts + (w - 1)) q) ≡ all
+  -- one more line was read
+  pub tree_step : (x : CertLine) (parts : ℕ) (q : Cursor) → next_of BadLine line_of p ≡ Ok (x, q) → parts ≡ parts_of x
+      → with_prefix (xs ++ x ∷ []) (trees_at (parts + (w - 1)) q) ≡ all
   tree_step x parts q read same =
-      front_more xs x (trees_at (parts + (w - 1)) q)
-      ∙ ap (with_front xs) (ap (λ k. onto x (trees_at (k + (w - 1)) q)) same ∙ sym (opened ∙ ap (λ r. r >>= then_tree) read))
+      prefix_more xs x (trees_at (parts + (w - 1)) q)
+      ∙ ap (with_prefix xs) (ap (λ k. onto x (trees_at (k + (w - 1)) q)) same ∙ sym (opened ∙ ap (λ r. r >>= then_tree) read))
       ∙ h
 
   -- the line has a fault
   pub tree_fails : (e : CertError) → FailsAs e (next_of BadLine line_of p) → FailsAs e all
   tree_fails e f =
-      fails_as e _ all (sym (ap (with_front xs) opened) ∙ h)
+      fails_as e _ all (sym (ap (with_prefix xs) opened) ∙ h)
       (fails_then e (next_of BadLine line_of p >>= then_tree) (λ r. Ok (xs ++ r.0, r.1)) (fails_then e (next_of BadLine line_of p) then_tree f))
 
-pub tree_ends : (w : ℕ) (xs : List CertLine) (p : Place) (all : Result (List CertLine × Place) CertFault) → w ≤ 0 → with_front xs (trees_at w p) ≡ all → all ≡ Ok (xs, p)
+pub tree_ends : (w : ℕ) (xs : List CertLine) (p : Cursor) (all : Result (List CertLine × Cursor) CertFault) → w ≤ 0 → with_prefix xs (trees_at w p) ≡ all → all ≡ Ok (xs, p)
 tree_ends zero xs p all none h = sym h ∙ ap (λ ys. Ok (ys, p)) (append-nil xs)
 tree_ends (suc w) xs p all none h = absurd (omega arith)
 
--- the lines with one more, and the trees that they want behind them
+-- the lines with one more, and the trees that must follow them
 pub shape_step : (w : ℕ) (xs : List CertLine) (x : CertLine) (parts : ℕ) → 0 < w → parts ≡ parts_of x
     → ((more : List CertLine) → are_trees 1 (xs ++ more) ≡ are_trees w more) → (more : List CertLine) → are_trees 1 ((xs ++ x ∷ []) ++ more) ≡ are_trees (parts + (w - 1)) more
 shape_step w xs x parts some same shape more =
@@ -44,27 +44,27 @@ shape_step w xs x parts some same shape more =
     ap (are_trees 1) (append_assoc xs (x ∷ []) more) ∙ shape (x ∷ more) ∙ ap (λ v. are_trees v (x ∷ more)) e ∙ shape_on (w - 1) x more
     ∙ ap (λ k. are_trees (k + (w - 1)) more) (sym same)
 
-module _ (dims count i : ℕ) (xs : List (List ℕ)) (p : Place) (all : Result (List (List ℕ) × Place) CertFault) (some : i < count) (h : with_front xs (recipes_at dims (count - i) p) ≡ all) where
-  abbrev then_recipes : List ℕ × Place → Result (List (List ℕ) × Place) CertFault
+module _ (dims count i : ℕ) (xs : List (List ℕ)) (p : Cursor) (all : Result (List (List ℕ) × Cursor) CertFault) (some : i < count) (h : with_prefix xs (recipes_at dims (count - i) p) ≡ all) where
+  abbrev then_recipes : List ℕ × Cursor → Result (List (List ℕ) × Cursor) CertFault
   then_recipes r = onto r.0 (recipes_at dims (count - (i + 1)) r.1)
 
   opened_list : recipes_at dims (count - i) p ≡ (next_of BadLine (recipe_of dims) p >>= then_recipes)
   opened_list = let e : count - i ≡ suc (count - (i + 1)) = omega (arith, some) in ap (λ v. recipes_at dims v p) e
 
-  -- one recipe more was read
-  pub recipe_step : (x : List ℕ) (q : Place) → next_of BadLine (recipe_of dims) p ≡ Ok (x, q) → with_front (xs ++ x ∷ []) (recipes_at dims (count - (i + 1)) q) ≡ all
+  -- one more recipe was read
+  pub recipe_step : (x : List ℕ) (q : Cursor) → next_of BadLine (recipe_of dims) p ≡ Ok (x, q) → with_prefix (xs ++ x ∷ []) (recipes_at dims (count - (i + 1)) q) ≡ all
   recipe_step x q read =
-      front_more xs x (recipes_at dims (count - (i + 1)) q)
-      ∙ ap (with_front xs) (sym (opened_list ∙ ap (λ r. r >>= then_recipes) read))
+      prefix_more xs x (recipes_at dims (count - (i + 1)) q)
+      ∙ ap (with_prefix xs) (sym (opened_list ∙ ap (λ r. r >>= then_recipes) read))
       ∙ h
 
   -- the line has a fault
   pub recipe_fails : (e : CertError) → FailsAs e (next_of BadLine (recipe_of dims) p) → FailsAs e all
   recipe_fails e f =
-      fails_as e _ all (sym (ap (with_front xs) opened_list) ∙ h)
+      fails_as e _ all (sym (ap (with_prefix xs) opened_list) ∙ h)
       (fails_then e (next_of BadLine (recipe_of dims) p >>= then_recipes) (λ r. Ok (xs ++ r.0, r.1)) (fails_then e (next_of BadLine (recipe_of dims) p) then_recipes f))
 
-pub recipes_end : (dims count i : ℕ) (xs : List (List ℕ)) (p : Place) (all : Result (List (List ℕ) × Place) CertFault) → count ≤ i → with_front xs (recipes_at dims (count - i) p) ≡ all → all ≡ Ok (xs, p)
+pub recipes_end : (dims count i : ℕ) (xs : List (List ℕ)) (p : Cursor) (all : Result (List (List ℕ) × Cursor) CertFault) → count ≤ i → with_prefix xs (recipes_at dims (count - i) p) ≡ all → all ≡ Ok (xs, p)
 recipes_end dims count i xs p all l h =
     let e : count - i ≡ 0 = omega arith in
-    sym h ∙ ap (λ k. with_front xs (recipes_at dims k p)) e ∙ ap (λ ys. Ok (ys, p)) (append-nil xs)
+    sym h ∙ ap (λ k. with_prefix xs (recipes_at dims k p)) e ∙ ap (λ ys. Ok (ys, p)) (append-nil xs)

@@ -1,4 +1,4 @@
--- What is read is spelled so.
+-- A text that is read is the spelling of what is read.
 use Rattle.std.proofs.Common.{◌≡◌, ◌==◌, ℕ, zero, suc, ◌+◌, ◌<◌, ◌^◌, Bool, true, false, List, [], ◌∷◌, ◌++◌, length, flat_map, refl, sym, ap, ◌∙◌, subst, arith, append_assoc, decimal, if◌then◌else◌, ◌⊎◌, inl, inr}
 use Rattle.std.specs.Prelude.{Option, Some, None, Result, Ok, Err, option_map, option_and_then, codes}
 use Rattle.std.specs.Str.{bytes_eq}
@@ -12,10 +12,10 @@ use Rattle.box_specs.specs.declared.certificate.CertRule.{CertRule}
 use Rattle.box_specs.specs.declared.certificate.CertRule.TheVariants.{BadClaim, BadHeader, BadLine}
 use Rattle.box_specs.specs.declared.certificate.Claim.{Claim}
 use Rattle.box_specs.specs.declared.certificate.Claim.TheVariants.{Floor, Match, NoMatch}
-use Rattle.box_cert.specs.Lines.{cut_at, in_front, lettered, line_of, numbers_at, recipe_of, split_of}
+use Rattle.box_cert.specs.Lines.{cut_at, lettered_line, line_of, number_before, numbers_at, recipe_of, split_of}
 use Rattle.box_cert.specs.Numbers.{number_of}
-use Rattle.box_cert.specs.Spelling.{Content, cert_text, claim_text, count_text, ended, head_text, line_text, lines_text, numbers_text, recipes_text}
-use Rattle.box_cert.specs.Text.{◌>>=◌, Place, byte_first, cert_of, claim_in, claim_of, count_in, count_of, header_of, line_then, lines_of, next_of, nothing_left, parts_of, place_of, recipes_at, said, trees_at, trees_from}
+use Rattle.box_cert.specs.Spelling.{Content, as_line, cert_text, claim_text, count_text, head_text, line_text, lines_text, numbers_text, recipes_text}
+use Rattle.box_cert.specs.Text.{◌>>=◌, Cursor, byte_first, cert_of, claim_in, claim_of, count_in, count_of, cursor_of, header_of, line_result, line_then, lines_of, next_of, nothing_left, parts_of, recipes_at, trees_at, trees_from}
 use Rattle.box_cert.proofs.Cuts.{cut_takes}
 use Rattle.box_cert.proofs.Numerals.{number_takes}
 use Rattle.box_cert.proofs.Parts.{then_claim, then_count, then_end, then_list, then_tree}
@@ -45,7 +45,7 @@ ok_same : {A : Type 0} (x y : A) → good x ≡ good y → x ≡ y
 unfolding ok_or
 ok_same x y h = ap (ok_or x) h
 
--- what was read before, and what was read then
+-- what the first of two readings read, and what the second did
 pub bind_ok : {A B : Type 0} (r : Result A CertFault) (f : A → Result B CertFault) (y : B) → (r >>= f) ≡ Ok y → (x : A) × (r ≡ Ok x) × (f x ≡ Ok y)
 bind_ok (Ok x) f y h = (x, refl, h)
 bind_ok (Err e) f y h = absurd (err_ok e y h)
@@ -63,7 +63,7 @@ chosen true x y z h = inl (refl, h)
 chosen false x y z h = inr h
 
 -- numbers with one space between
-first_read : (o : Option ℕ) (more : Option (List ℕ)) (ns : List ℕ) → in_front o more ≡ Some ns → (n : ℕ) × (ms : List ℕ) × (o ≡ Some n) × (more ≡ Some ms) × (ns ≡ n ∷ ms)
+first_read : (o : Option ℕ) (more : Option (List ℕ)) (ns : List ℕ) → number_before o more ≡ Some ns → (n : ℕ) × (ms : List ℕ) × (o ≡ Some n) × (more ≡ Some ms) × (ns ≡ n ∷ ms)
 first_read None more ns h = absurd (none_some ns h)
 first_read (Some n) more ns h = let m = map_some (λ xs. n ∷ xs) more ns h in (n, m.0, refl, m.1, sym m.2)
 
@@ -82,7 +82,7 @@ numbers_takes zero text ns h =
     let s = number_takes 0 4000 text m.0 (omega arith) m.1 in
     record { is = s.is ∙ ap numbers_text m.2; count = sym (ap length m.2) }
 numbers_takes (suc k) text ns h =
-    let c = then_some (λ r. in_front (number_of 0 4000 r.0) (numbers_at k r.1)) (cut_at 32 text) ns h in
+    let c = then_some (λ r. number_before (number_of 0 4000 r.0) (numbers_at k r.1)) (cut_at 32 text) ns h in
     let r = c.0 in
     let f = first_read (number_of 0 4000 r.0) (numbers_at k r.1) ns c.2 in
     let s = number_takes 0 4000 r.0 f.0 (omega arith) f.2 in
@@ -139,7 +139,7 @@ line_takes (letter ∷ (space ∷ text)) line h = second (space == 32) refl h wh
   third false false true p q r e = ap (λ x. x ∷ (32 ∷ text)) (is_it letter 102 r) ∙ light e
   third false false false p q r e = absurd (none_some line e)
 
-  second : (b : Bool) → (space == 32) ≡ b → (if b then lettered letter text else None) ≡ Some line → letter ∷ (space ∷ text) ≡ line_text line
+  second : (b : Bool) → (space == 32) ≡ b → (if b then lettered_line letter text else None) ≡ Some line → letter ∷ (space ∷ text) ≡ line_text line
   second true p e = ap (λ x. letter ∷ (x ∷ text)) (is_it space 32 p) ∙ third (letter == 115) (letter == 120) (letter == 102) refl refl refl e
   second false p e = absurd (none_some line e)
 
@@ -184,18 +184,18 @@ count_takes line count h = go (cut_at 32 line) refl h where
   go None p e = absurd (none_some count e)
   go (Some r) p e = worded r (cut_takes 32 line r p) (bytes_eq r.0 (codes "undecided")) refl e
 
--- the text from a place on
+-- the text that is still to be read
 abbrev pub text_at : List (List ℕ) → List ℕ → List ℕ
-text_at lines left = flat_map (λ line. ended line) lines ++ left
+text_at lines left = flat_map (λ line. as_line line) lines ++ left
 
-abbrev pub text_of : Place → List ℕ
+abbrev pub text_of : Cursor → List ℕ
 text_of p = text_at p.lines p.left
 
 joined_first : (b : ℕ) (r : List (List ℕ) × List ℕ) (bs : List ℕ) → text_at r.0 r.1 ≡ bs → text_at (byte_first b r).0 (byte_first b r).1 ≡ b ∷ bs
 joined_first b ([], left) bs h = ap (λ t. b ∷ t) h
 joined_first b ((line ∷ lines), left) bs h = ap (λ t. b ∷ t) h
 
--- the lines of a text make it again
+-- the lines of a text together are the text
 pub lines_joined : (text : List ℕ) → text_at (lines_of text).0 (lines_of text).1 ≡ text
 lines_joined [] = refl
 lines_joined (b ∷ bs) = go (b == 10) refl (lines_of bs) (lines_joined bs) where
@@ -204,36 +204,36 @@ lines_joined (b ∷ bs) = go (b == 10) refl (lines_of bs) (lines_joined bs) wher
   go true p r h = ap (λ t. 10 ∷ t) h ∙ ap (λ x. x ∷ bs) (sym (is_it b 10 p))
   go false p r h = joined_first b r bs h
 
--- a line that was read in front of what follows
-pub record Taken {A : Type 0} (kind : List ℕ → Option A) (text : List ℕ) (y : A × Place) : Type 0 where
+-- a line that was read, and the text after it
+pub record Taken {A : Type 0} (kind : List ℕ → Option A) (text : List ℕ) (y : A × Cursor) : Type 0 where
   pub line : List ℕ
   pub is : kind line ≡ Some y.0
-  pub joined : text ≡ ended line ++ text_of y.1
+  pub joined : text ≡ as_line line ++ text_of y.1
 
-next_taken : {A : Type 0} (rule : CertRule) (kind : List ℕ → Option A) (number : ℕ) (lines : List (List ℕ)) (left : List ℕ) (y : A × Place)
+next_taken : {A : Type 0} (rule : CertRule) (kind : List ℕ → Option A) (number : ℕ) (lines : List (List ℕ)) (left : List ℕ) (y : A × Cursor)
     → next_of rule kind (record { number = number; lines = lines; left = left }) ≡ Ok y → Taken kind (text_at lines left) y
 next_taken rule kind number [] left y h = absurd (err_ok _ y h)
 next_taken rule kind number (line ∷ lines) left y h = go (kind line) refl h where
-  q : Place
+  q : Cursor
   q = record { number = number + 1; lines = lines; left = left }
 
-  go : (o : Option _) → kind line ≡ o → said number rule o (record { number = number + 1; lines = lines; left = left }) ≡ Ok y → Taken kind (text_at (line ∷ lines) left) y
+  go : (o : Option _) → kind line ≡ o → line_result number rule o (record { number = number + 1; lines = lines; left = left }) ≡ Ok y → Taken kind (text_at (line ∷ lines) left) y
   go None p e = absurd (err_ok _ y e)
   go (Some x) p e =
-      let P : (_ × Place) → Type 0 = λ z. Taken kind (text_at (line ∷ lines) left) z in
-      subst P (ok_same _ y e) (record { line = line; is = p; joined = append_assoc (ended line) (flat_map (λ l. ended l) lines) left })
+      let P : (_ × Cursor) → Type 0 = λ z. Taken kind (text_at (line ∷ lines) left) z in
+      subst P (ok_same _ y e) (record { line = line; is = p; joined = append_assoc (as_line line) (flat_map (λ l. as_line l) lines) left })
 
-pub next_takes : {A : Type 0} (rule : CertRule) (kind : List ℕ → Option A) (p : Place) (y : A × Place) → next_of rule kind p ≡ Ok y → Taken kind (text_of p) y
+pub next_takes : {A : Type 0} (rule : CertRule) (kind : List ℕ → Option A) (p : Cursor) (y : A × Cursor) → next_of rule kind p ≡ Ok y → Taken kind (text_of p) y
 next_takes rule kind p y h = next_taken rule kind p.number p.lines p.left y h
 
 -- the listed recipes
-pub record ListTaken (count : ℕ) (text : List ℕ) (y : List (List ℕ) × Place) : Type 0 where
+pub record ListTaken (count : ℕ) (text : List ℕ) (y : List (List ℕ) × Cursor) : Type 0 where
   pub joined : text ≡ recipes_text y.0 ++ text_of y.1
   pub many : length y.0 ≡ count
 
-pub recipes_takes : (dims k : ℕ) (p : Place) (y : List (List ℕ) × Place) → recipes_at dims k p ≡ Ok y → ListTaken k (text_of p) y
+pub recipes_takes : (dims k : ℕ) (p : Cursor) (y : List (List ℕ) × Cursor) → recipes_at dims k p ≡ Ok y → ListTaken k (text_of p) y
 recipes_takes dims zero p y h =
-    let P : (List (List ℕ) × Place) → Type 0 = λ z. ListTaken 0 (text_of p) z in
+    let P : (List (List ℕ) × Cursor) → Type 0 = λ z. ListTaken 0 (text_of p) z in
     subst P (ok_same _ y h) (record { joined = refl; many = refl })
 recipes_takes dims (suc k) p y h =
     let a = bind_ok (next_of BadLine (recipe_of dims) p) (λ r. recipes_at dims k r.1 >>= λ rs. Ok (r.0 ∷ rs.0, rs.1)) y h in
@@ -241,32 +241,32 @@ recipes_takes dims (suc k) p y h =
     let b = bind_ok (recipes_at dims k r.1) (λ rs. Ok (r.0 ∷ rs.0, rs.1)) y a.2 in
     let t = next_takes BadLine (recipe_of dims) p r a.1 in
     let more = recipes_takes dims k r.1 b.0 b.1 in
-    let P : (List (List ℕ) × Place) → Type 0 = λ z. ListTaken (suc k) (text_of p) z in
+    let P : (List (List ℕ) × Cursor) → Type 0 = λ z. ListTaken (suc k) (text_of p) z in
     subst P (ok_same _ y b.2) (record {
-      joined = t.joined ∙ ap (λ l. ended l ++ text_of r.1) (recipe_takes dims t.line r.0 t.is) ∙ ap (λ m. ended (numbers_text r.0) ++ m) more.joined
-          ∙ sym (append_assoc (ended (numbers_text r.0)) (recipes_text b.0.0) (text_of b.0.1));
+      joined = t.joined ∙ ap (λ l. as_line l ++ text_of r.1) (recipe_takes dims t.line r.0 t.is) ∙ ap (λ m. as_line (numbers_text r.0) ++ m) more.joined
+          ∙ sym (append_assoc (as_line (numbers_text r.0)) (recipes_text b.0.0) (text_of b.0.1));
       many = ap suc more.many;
     })
 
 -- the lines of trees
-pub trees_take : (k number : ℕ) (lines : List (List ℕ)) (left : List ℕ) (y : List CertLine × Place) → trees_from k number lines left ≡ Ok y → text_at lines left ≡ lines_text y.0 ++ text_of y.1
+pub trees_take : (k number : ℕ) (lines : List (List ℕ)) (left : List ℕ) (y : List CertLine × Cursor) → trees_from k number lines left ≡ Ok y → text_at lines left ≡ lines_text y.0 ++ text_of y.1
 trees_take zero number lines left y h =
-    let P : (List CertLine × Place) → Type 0 = λ z. text_at lines left ≡ lines_text z.0 ++ text_of z.1 in
+    let P : (List CertLine × Cursor) → Type 0 = λ z. text_at lines left ≡ lines_text z.0 ++ text_of z.1 in
     subst P (ok_same _ y h) refl
 trees_take (suc k) number [] left y h = absurd (err_ok _ y h)
 trees_take (suc k) number (text ∷ lines) left y h = go (line_of text) refl (λ line z. trees_take (parts_of line + k) (number + 1) lines left z) h where
   go : (o : Option CertLine) → line_of text ≡ o
-      → ((line : CertLine) (z : List CertLine × Place) → trees_from (parts_of line + k) (number + 1) lines left ≡ Ok z → text_at lines left ≡ lines_text z.0 ++ text_of z.1)
+      → ((line : CertLine) (z : List CertLine × Cursor) → trees_from (parts_of line + k) (number + 1) lines left ≡ Ok z → text_at lines left ≡ lines_text z.0 ++ text_of z.1)
       → line_then number o (λ line. trees_from (parts_of line + k) (number + 1) lines left) ≡ Ok y → text_at (text ∷ lines) left ≡ lines_text y.0 ++ text_of y.1
   go None p more e = absurd (err_ok _ y e)
   go (Some line) p more e =
       let b = bind_ok (trees_from (parts_of line + k) (number + 1) lines left) (λ r. Ok (line ∷ r.0, r.1)) y e in
       let z = b.0 in
-      let P : (List CertLine × Place) → Type 0 = λ z. text_at (text ∷ lines) left ≡ lines_text z.0 ++ text_of z.1 in
+      let P : (List CertLine × Cursor) → Type 0 = λ z. text_at (text ∷ lines) left ≡ lines_text z.0 ++ text_of z.1 in
       subst P (ok_same _ y b.2)
-      (append_assoc (ended text) (flat_map (λ l. ended l) lines) left
-      ∙ ap (λ l. ended l ++ text_at lines left) (line_takes text line p) ∙ ap (λ m. ended (line_text line) ++ m) (more line z b.1)
-      ∙ sym (append_assoc (ended (line_text line)) (lines_text z.0) (text_of z.1)))
+      (append_assoc (as_line text) (flat_map (λ l. as_line l) lines) left
+      ∙ ap (λ l. as_line l ++ text_at lines left) (line_takes text line p) ∙ ap (λ m. as_line (line_text line) ++ m) (more line z b.1)
+      ∙ sym (append_assoc (as_line (line_text line)) (lines_text z.0) (text_of z.1)))
 
 -- the end of a text
 pub record IsEnd {A : Type 0} (c d : A) (lines : List (List ℕ)) (left : List ℕ) : Type 0 where
@@ -286,7 +286,7 @@ regrouped a b c r l =
 pub cert_takes : (dims : ℕ) (text : List ℕ) (c : Content) → cert_of dims text ≡ Ok c → text ≡ cert_text c
 unfolding cert_of cert_text head_text
 cert_takes dims text c h =
-    let p1 = place_of 1 text in
+    let p1 = cursor_of 1 text in
     let h1 = bind_ok (next_of BadHeader header_of p1) (then_claim dims) c h in
     let t1 = next_takes BadHeader header_of p1 h1.0 h1.1 in
     let h2 = bind_ok (next_of BadClaim (claim_of dims) h1.0.1) (then_count dims) c h1.2 in
@@ -299,15 +299,15 @@ cert_takes dims text c h =
     let p6 = h5.0.1 in
     let t5 = trees_take 1 h4.0.1.number h4.0.1.lines h4.0.1.left h5.0 h5.1 in
     let last = end_takes (record { claim = h2.0.0; listed = h4.0.0; lines = h5.0.0 }) c p6.number p6.lines p6.left h5.2 in
-    let A = ended (codes "dye-cert 1") in
-    let B = ended (claim_text h2.0.0) in
-    let C = ended (count_text (length h4.0.0)) in
+    let A = as_line (codes "dye-cert 1") in
+    let B = as_line (claim_text h2.0.0) in
+    let C = as_line (count_text (length h4.0.0)) in
     let R = recipes_text h4.0.0 in
     let L = lines_text h5.0.0 in
     let e5 : text_of h4.0.1 ≡ L = t5 ∙ ap (λ t. L ++ t) last.none ∙ append-nil L in
     let e4 : text_of h3.0.1 ≡ R ++ L = t4.joined ∙ ap (λ t. R ++ t) e5 in
     let e3 : text_of h2.0.1 ≡ C ++ (R ++ L) =
-    t3.joined ∙ ap (λ l. ended l ++ text_of h3.0.1) (count_takes t3.line h3.0.0 t3.is ∙ ap count_text (sym t4.many)) ∙ ap (λ t. C ++ t) e4 in
-    let e2 : text_of h1.0.1 ≡ B ++ (C ++ (R ++ L)) = t2.joined ∙ ap (λ l. ended l ++ text_of h2.0.1) (claim_takes dims t2.line h2.0.0 t2.is) ∙ ap (λ t. B ++ t) e3 in
-    let e1 : text_of p1 ≡ A ++ (B ++ (C ++ (R ++ L))) = t1.joined ∙ ap (λ l. ended l ++ text_of h1.0.1) (header_takes t1.line h1.0.0 t1.is) ∙ ap (λ t. A ++ t) e2 in
+    t3.joined ∙ ap (λ l. as_line l ++ text_of h3.0.1) (count_takes t3.line h3.0.0 t3.is ∙ ap count_text (sym t4.many)) ∙ ap (λ t. C ++ t) e4 in
+    let e2 : text_of h1.0.1 ≡ B ++ (C ++ (R ++ L)) = t2.joined ∙ ap (λ l. as_line l ++ text_of h2.0.1) (claim_takes dims t2.line h2.0.0 t2.is) ∙ ap (λ t. B ++ t) e3 in
+    let e1 : text_of p1 ≡ A ++ (B ++ (C ++ (R ++ L))) = t1.joined ∙ ap (λ l. as_line l ++ text_of h1.0.1) (header_takes t1.line h1.0.0 t1.is) ∙ ap (λ t. A ++ t) e2 in
     sym (lines_joined text) ∙ e1 ∙ regrouped A B C R L ∙ ap cert_text last.same

@@ -15,7 +15,7 @@ later : (b : ℕ) (bs : List ℕ) (o : Option (List ℕ × List ℕ)) → byte_f
 later b bs None = refl
 later b bs (Some r) = refl
 
--- the first line is what stands before the first line feed
+-- the first line is what comes before the first line feed
 pub lines_cut : (text : List ℕ) → lines_of text ≡ split_at text (cut_at 10 text)
 lines_cut [] = refl
 lines_cut (b ∷ bs) = go (b == 10) (lines_cut bs) where

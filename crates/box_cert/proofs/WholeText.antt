@@ -1,4 +1,4 @@
--- A certificate is read exactly where it is spelled so.
+-- A text is read as a certificate exactly where it is the spelling of that certificate.
 use Rattle.std.proofs.Common.{◌≡◌, ◌≤◌, ℕ, List, ap, ◌∙◌, subst}
 use Rattle.std.specs.Prelude.{Result, Ok, Err, IfOk}
 use Rattle.box_core.specs.declared.cert.Cert.{Cert}

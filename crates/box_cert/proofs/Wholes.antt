@@ -26,7 +26,7 @@ module _ (name head recipes lines : List ℕ) (old : ShelfView) where
       pub no_lines : (new : ShelfView) → GoesWrong name lines w2 v2 new → GoesWrong name ((head ++ recipes) ++ lines) [] old new
       no_lines new f = on_wrong name (head ++ recipes) lines [] w2 old v2 new both f
 
-      -- all was put, and what waits is appended
+      -- all was put, and the waiting bytes are appended
       pub all_put : {T E : Type 0} (r : Result T E) (w3 : List ℕ) (v3 new : ShelfView) → GoesOn name lines w2 v2 w3 v3 → Goes name [] r w3 v3 [] new → Goes name ((head ++ recipes) ++ lines) r [] old [] new
       all_put (Ok x) w3 v3 new third last =
           let P : List ℕ → Type 0 = λ t. GoesOn name t [] old [] new in
@@ -37,7 +37,7 @@ module _ (name head recipes lines : List ℕ) (old : ShelfView) where
           subst P (append-nil ((head ++ recipes) ++ lines))
           (on_wrong name ((head ++ recipes) ++ lines) [] [] w3 old v3 new (on_on name (head ++ recipes) lines [] w2 w3 old v2 v3 both third) last)
 
--- a create, and then the text behind no bytes
+-- the file is created, and then the text is put while no byte waits
 pub written : {T E : Type 0} (r : Result T E) (name text : List ℕ) (old mid new : ShelfView) → mid.contents ≡ option_map (put_bytes name []) old.contents
     → OnlyWrites name 0 old mid → mid.write_faults name ≡ old.write_faults name → Goes name text r [] mid [] new → Writes name text r old new
 written (Ok x) name text old mid new made only same goes =
@@ -54,4 +54,4 @@ written (Ok x) name text old mid new made only same goes =
 written (Err e) name text old mid new made only same goes =
     let begun : Holds name [] [] old mid = record { done = []; is = refl; contents = written_none name old.contents mid.contents made; only = only; counted = same } in
     let f = goes old [] begun in
-    record { contents = inr f.front; only = f.only; counted = f.counted; promised = λ more p. absurd (f.unpromised more p) }
+    record { contents = inr f.prefix; only = f.only; counted = f.counted; promised = λ more p. absurd (f.unpromised more p) }

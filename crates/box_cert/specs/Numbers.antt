@@ -1,9 +1,9 @@
--- Numbers in a certificate: decimal digits with no needless 0 in front.
+-- Numbers in a certificate: decimal digits with no leading 0.
 use Rattle.std.specs.Prelude.{◌==◌, ◌&&◌, ℕ, Bool, true, false, not, nat_le, if◌then◌else◌, List, [], ◌∷◌, Option, Some, None}
 use Rattle.std.specs.List.{list_all}
 use Rattle.dec_text.specs.Decimal.{digits_from, is_digit}
 
--- at least one byte, and no 0 in front of another byte
+-- at least one byte, and no leading 0
 abbrev pub is_plain : List ℕ → Bool
 is_plain [] = false
 is_plain (d ∷ []) = true
@@ -12,10 +12,10 @@ is_plain (d ∷ (e ∷ ds)) = not (d == 48)
 abbrev pub is_numeral : List ℕ → Bool
 is_numeral word = is_plain word && list_all is_digit word
 
--- a number, if it lies in its range
+-- a number, if it is from least to most
 abbrev pub in_range : ℕ → ℕ → ℕ → Option ℕ
 in_range least most n = if nat_le least n && nat_le n most then Some n else None
 
--- the number of a range that a word writes
+-- the number that a word spells, if it is from least to most
 unfoldable pub number_of : ℕ → ℕ → List ℕ → Option ℕ
 number_of least most word = if is_numeral word then in_range least most (digits_from 0 word) else None

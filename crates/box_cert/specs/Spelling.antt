@@ -6,7 +6,7 @@ use Rattle.box_specs.specs.declared.certificate.CertLine.TheVariants.{Dear, Fail
 use Rattle.box_specs.specs.declared.certificate.Claim.{Claim}
 use Rattle.box_specs.specs.declared.certificate.Claim.TheVariants.{Floor, Match, NoMatch}
 
--- a certificate without where it lies in memory
+-- the values of a certificate
 pub record Content : Type 0 where
   pub claim : Claim
   pub listed : List (List ℕ)
@@ -44,18 +44,18 @@ claim_text (Floor cost) = codes "floor " ++ decimal cost
 abbrev pub count_text : ℕ → List ℕ
 count_text count = codes "undecided " ++ decimal count
 
-abbrev pub ended : List ℕ → List ℕ
-ended line = line ++ (10 ∷ [])
+abbrev pub as_line : List ℕ → List ℕ
+as_line line = line ++ (10 ∷ [])
 
 -- the first three lines
 unfoldable pub head_text : Claim → ℕ → List ℕ
-head_text claim count = (ended (codes "dye-cert 1") ++ ended (claim_text claim)) ++ ended (count_text count)
+head_text claim count = (as_line (codes "dye-cert 1") ++ as_line (claim_text claim)) ++ as_line (count_text count)
 
 abbrev pub recipes_text : List (List ℕ) → List ℕ
-recipes_text listed = flat_map (λ steps. ended (numbers_text steps)) listed
+recipes_text listed = flat_map (λ steps. as_line (numbers_text steps)) listed
 
 abbrev pub lines_text : List CertLine → List ℕ
-lines_text lines = flat_map (λ line. ended (line_text line)) lines
+lines_text lines = flat_map (λ line. as_line (line_text line)) lines
 
 -- the whole certificate
 unfoldable pub cert_text : Content → List ℕ

@@ -16,7 +16,7 @@ use Rattle.box_cert.specs.Lines.{cut_at, line_of, recipe_of}
 use Rattle.box_cert.specs.Numbers.{number_of}
 use Rattle.box_cert.specs.Spelling.{Content}
 
--- what a function returned, seen by view, is what reading gives, unless memory ran out
+-- what a function returned, mapped by view, is what the definition reads, unless memory ran out
 abbrev pub FailsAs : {Y : Type 0} → CertError → Result Y CertFault → Type 0
 FailsAs errors.Memory read = Unit {0}
 FailsAs (errors.Fault f) read = read ≡ Err f
@@ -30,43 +30,43 @@ abbrev pub ◌>>=◌ : {A B : Type 0} → Result A CertFault → (A → Result B
 (Ok x) >>= f = f x
 (Err e) >>= f = Err e
 
--- where reading stands: the number of the next line, the lines to come, and what stands behind the last line feed
-pub record Place : Type 0 where
+-- the rest of a text while it is read: the number of the next line, the lines to come, and the bytes after the last line feed
+pub record Cursor : Type 0 where
   pub number : ℕ
   pub lines : List (List ℕ)
   pub left : List ℕ
 
--- one byte more in front of a text in lines
+-- a text in lines, with one more byte before it
 abbrev pub byte_first : ℕ → List (List ℕ) × List ℕ → List (List ℕ) × List ℕ
 byte_first b ([], left) = ([], b ∷ left)
 byte_first b ((line ∷ lines), left) = ((b ∷ line) ∷ lines, left)
 
--- the lines of a text that end with a line feed, and what stands behind the last of them
+-- the lines of a text that end with a line feed, and the bytes after the last of them
 abbrev pub lines_of : List ℕ → List (List ℕ) × List ℕ
 lines_of [] = ([], [])
 lines_of (b ∷ bs) = if b == 10 then ([] ∷ (lines_of bs).0, (lines_of bs).1) else byte_first b (lines_of bs)
 
-abbrev pub place_of : ℕ → List ℕ → Place
-place_of number text = record { number = number; lines = (lines_of text).0; left = (lines_of text).1 }
+abbrev pub cursor_of : ℕ → List ℕ → Cursor
+cursor_of number text = record { number = number; lines = (lines_of text).0; left = (lines_of text).1 }
 
 abbrev pub fault : {A : Type 0} → ℕ → CertRule → Result A CertFault
 fault line rule = Err (record { line = line; rule = rule })
 
 -- the next line
-abbrev pub line_from : ℕ → List (List ℕ) → List ℕ → Result (List ℕ × Place) CertFault
+abbrev pub line_from : ℕ → List (List ℕ) → List ℕ → Result (List ℕ × Cursor) CertFault
 line_from number [] left = fault number Missing
 line_from number (line ∷ lines) left = Ok (line, record { number = number + 1; lines = lines; left = left })
 
-abbrev pub next_line : Place → Result (List ℕ × Place) CertFault
+abbrev pub next_line : Cursor → Result (List ℕ × Cursor) CertFault
 next_line p = line_from p.number p.lines p.left
 
--- what a line says, or that it breaks a rule
-abbrev pub said : {A : Type 0} → ℕ → CertRule → Option A → Place → Result (A × Place) CertFault
-said number rule None next = fault number rule
-said number rule (Some x) next = Ok (x, next)
+-- the value that was read from a line, or the fault of the rule that it breaks
+abbrev pub line_result : {A : Type 0} → ℕ → CertRule → Option A → Cursor → Result (A × Cursor) CertFault
+line_result number rule None next = fault number rule
+line_result number rule (Some x) next = Ok (x, next)
 
-abbrev pub next_of : {A : Type 0} → CertRule → (List ℕ → Option A) → Place → Result (A × Place) CertFault
-next_of rule kind p = next_line p >>= λ r. said p.number rule (kind r.0) r.1
+abbrev pub next_of : {A : Type 0} → CertRule → (List ℕ → Option A) → Cursor → Result (A × Cursor) CertFault
+next_of rule kind p = next_line p >>= λ r. line_result p.number rule (kind r.0) r.1
 
 -- the first line
 abbrev pub header_of : List ℕ → Option (Unit {0})
@@ -96,12 +96,12 @@ count_in (Some r) = if bytes_eq r.0 (codes "undecided") then number_of 0 1000000
 abbrev pub count_of : List ℕ → Option ℕ
 count_of line = count_in (cut_at 32 line)
 
--- so many recipes
-abbrev pub recipes_at : ℕ → ℕ → Place → Result (List (List ℕ) × Place) CertFault
+-- the given number of recipes of dims dyes
+abbrev pub recipes_at : ℕ → ℕ → Cursor → Result (List (List ℕ) × Cursor) CertFault
 recipes_at dims zero p = Ok ([], p)
 recipes_at dims (suc k) p = next_of BadLine (recipe_of dims) p >>= λ r. recipes_at dims k r.1 >>= λ rs. Ok (r.0 ∷ rs.0, rs.1)
 
--- so many recipes, each of so many dyes
+-- count recipes, each of dims dyes
 pub record AreRecipes (dims count : ℕ) (listed : List (List ℕ)) : Type 0 where
   pub many : length listed ≡ count
   pub each : All (λ steps. length steps ≡ dims) listed
@@ -113,7 +113,7 @@ pub record IsTree (lines : List CertLine) : Type 0 where
   pub short : length lines ≤ 32000000
   pub fits : All LineFits lines
 
--- how many trees a line wants behind it
+-- how many subtrees follow a line
 abbrev pub parts_of : CertLine → ℕ
 parts_of (Split dye mid) = 2
 parts_of (Limit k) = 0
@@ -122,20 +122,20 @@ parts_of Dear = 0
 parts_of Undecided = 0
 parts_of Pass = 0
 
-abbrev pub line_then : ℕ → Option CertLine → (CertLine → Result (List CertLine × Place) CertFault) → Result (List CertLine × Place) CertFault
+abbrev pub line_then : ℕ → Option CertLine → (CertLine → Result (List CertLine × Cursor) CertFault) → Result (List CertLine × Cursor) CertFault
 line_then number None rest = fault number BadLine
 line_then number (Some line) rest = rest line >>= λ r. Ok (line ∷ r.0, r.1)
 
--- so many trees, one after the other
-abbrev pub trees_from : ℕ → ℕ → List (List ℕ) → List ℕ → Result (List CertLine × Place) CertFault
+-- the given number of trees, one after the other
+abbrev pub trees_from : ℕ → ℕ → List (List ℕ) → List ℕ → Result (List CertLine × Cursor) CertFault
 trees_from zero number lines left = Ok ([], record { number = number; lines = lines; left = left })
 trees_from (suc k) number [] left = fault number Missing
 trees_from (suc k) number (text ∷ lines) left = line_then number (line_of text) (λ line. trees_from (parts_of line + k) (number + 1) lines left)
 
-abbrev pub trees_at : ℕ → Place → Result (List CertLine × Place) CertFault
+abbrev pub trees_at : ℕ → Cursor → Result (List CertLine × Cursor) CertFault
 trees_at trees p = trees_from trees p.number p.lines p.left
 
--- nothing stands behind the tree
+-- nothing follows the tree
 abbrev pub nothing_left : {A : Type 0} → A → ℕ → List (List ℕ) → List ℕ → Result A CertFault
 nothing_left c number [] [] = Ok c
 nothing_left c number [] (b ∷ bs) = fault number Left
@@ -144,14 +144,14 @@ nothing_left c number (line ∷ lines) left = fault number Left
 -- the certificate that a text spells, or its first fault
 unfoldable pub cert_of : ℕ → List ℕ → Result Content CertFault
 cert_of dims text = do
-  head ← next_of BadHeader header_of (place_of 1 text)
+  head ← next_of BadHeader header_of (cursor_of 1 text)
   claim ← next_of BadClaim (claim_of dims) head.1
   count ← next_of BadClaim count_of claim.1
   listed ← recipes_at dims count.0 count.1
   tree ← trees_at 1 listed.1
   nothing_left (record { claim = claim.0; listed = listed.0; lines = tree.0 }) tree.1.number tree.1.lines tree.1.left
 
--- a certificate for so many dyes
+-- a certificate of recipes of dims dyes, with each number in its range
 pub record IsCertFor (dims : ℕ) (c : Content) : Type 0 where
   pub numbers : ClaimFits c.claim
   pub claim : HasDims dims c.claim

@@ -16,7 +16,7 @@ pub enum CertError {
     Memory,
 }
 
-/// A fault of the line of this number.
+/// A fault in the line of this number.
 pub(crate) fn fault(line: u32, rule: CertRule) -> CertError
     ensures { result ≡ CertError.Fault (record { line = line; rule = rule }) }
 {

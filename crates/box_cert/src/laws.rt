@@ -1,4 +1,4 @@
-//! The laws of the two directions. A call does nothing; what it ensures is the law.
+//! The laws of reading and writing. A call does nothing; what it ensures is the law.
 
 ghost use Rattle.std.specs.Prelude.{◌≡◌, ◌≤◌, ℕ, List, Ok};
 ghost use Rattle.box_cert.specs.Spelling.{Content, cert_text};

@@ -13,7 +13,7 @@ use arrayvec::ArrayVec;
 use box_core::CertLine;
 use price_grid::Steps;
 
-/// The split that a text behind the letter spells.
+/// The split that the text after the letter spells.
 fn split_of(text: &[u8]) -> Option<CertLine>
     ensures is { result ≡ split_of text.now }
     ensures fits { IfSome result LineFits }
@@ -24,7 +24,7 @@ fn split_of(text: &[u8]) -> Option<CertLine>
     Some(CertLine::Split { dye, mid })
 }
 
-/// The limit that a text behind the letter spells.
+/// The limit that the text after the letter spells.
 fn limit_of(text: &[u8]) -> Option<CertLine>
     ensures is { result ≡ option_map (λ k. CertLine.Limit k) (number_of 1 5 text.now) }
     ensures fits { IfSome result LineFits }
@@ -33,7 +33,7 @@ fn limit_of(text: &[u8]) -> Option<CertLine>
     Some(CertLine::Limit(limit))
 }
 
-/// The light that a text behind the letter spells.
+/// The light that the text after the letter spells.
 fn fail_of(text: &[u8]) -> Option<CertLine>
     ensures is { result ≡ option_map (λ j. CertLine.Fail j) (number_of 1 4 text.now) }
     ensures fits { IfSome result LineFits }
@@ -58,8 +58,8 @@ fn tree_line(line: &[u8]) -> Option<CertLine>
     }
 }
 
-/// The line of a tree that a text spells, without its line feed. `None` exactly where the text is
-/// the spelling of no line.
+/// The line of a tree that a text without a line feed spells. `None` exactly where the text spells
+/// no line.
 pub fn read_line(line: &[u8]) -> Option<CertLine>
     ensures is { result ≡ line_of line.now }
     ensures fits { IfSome result LineFits }
@@ -69,7 +69,7 @@ pub fn read_line(line: &[u8]) -> Option<CertLine>
     tree_line(line)
 }
 
-/// The recipe of so many dyes that a text spells.
+/// The recipe of `dims` dyes that a text spells.
 fn recipe_line(line: &[u8], dims: usize) -> Option<Steps>
     requires some { 1 ≤ dims }
     requires few { dims ≤ 12 }
@@ -96,8 +96,8 @@ fn recipe_line(line: &[u8], dims: usize) -> Option<Steps>
     Some(steps)
 }
 
-/// The recipe of so many dyes that a text spells, without its line feed. `None` exactly where the
-/// text is the spelling of no such recipe.
+/// The recipe of `dims` dyes that a text without a line feed spells. `None` exactly where the text
+/// spells no such recipe.
 pub fn read_recipe(line: &[u8], dims: usize) -> Option<Steps>
     requires some { 1 ≤ dims }
     requires few { dims ≤ 12 }

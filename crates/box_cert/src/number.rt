@@ -10,10 +10,10 @@ ghost use Rattle.box_cert.specs.Numbers.{is_plain, number_of};
 use arrayvec::ArrayVec;
 use itoa::Buffer;
 
-/// Where counting stops: every greater number is counted as this.
+/// The cap on a number that is read: every greater one is read as this.
 const STOP: u64 = 1_000_000_000_000_001;
 
-/// Whether there is a byte, and no 0 in front of another byte.
+/// Whether there is at least one byte, and no leading 0.
 fn is_plain(word: &[u8]) -> bool
     ensures { result ≡ is_plain word.now }
 {
@@ -30,7 +30,7 @@ fn are_digits(word: &[u8]) -> bool
     word.iter().all(|b| b.is_ascii_digit())
 }
 
-/// The number that the digits write, at most `STOP`.
+/// The number that the digits spell, or `STOP` where that is less.
 fn capped(word: &[u8]) -> u64
     ensures { result ≡ min (largest + 1) (digits_from 0 word.now) }
 {
@@ -41,7 +41,7 @@ fn capped(word: &[u8]) -> u64
     number
 }
 
-/// The number of a range that a word writes in digits, with no needless 0 in front.
+/// The number that a word spells in digits with no leading 0, where it is `least` to `most`.
 #[tactic(auto, unfolding(crate::specs::Numbers::number_of))]
 pub(crate) fn number(word: &[u8], least: u64, most: u64) -> Option<u64>
     requires { most ≤ 10 ^ 15 }
@@ -59,15 +59,15 @@ pub(crate) fn number(word: &[u8], least: u64, most: u64) -> Option<u64>
     }
 }
 
-/// Where the first mark stands.
+/// The offset of the first mark.
 fn first_mark(mark: u8, text: &[u8]) -> Option<usize>
     ensures is { result ≡ position (is_mark mark) text.now }
-    ensures within { IfSome result (λ at. at < length text.now) }
+    ensures in_text { IfSome result (λ at. at < length text.now) }
 {
     text.iter().position(|b| *b == mark)
 }
 
-/// What stands before the first mark, and what stands behind it.
+/// The bytes before the first mark, and those after it.
 pub(crate) fn cut_at(mark: u8, text: &[u8]) -> Option<(&[u8], &[u8])>
     ensures { option_map (λ r. (r.0.now, r.1.now)) result ≡ cut_at mark text.now }
 {

@@ -6,7 +6,7 @@ ghost use Rattle.box_core.specs.Ranges.{ClaimFits, LineFits, StepsFit};
 ghost use Rattle.box_specs.specs.declared.certificate.CertRule.TheVariants.{BadClaim, BadHeader, BadLine};
 ghost use Rattle.box_cert.specs.Lines.{line_of, recipe_of};
 ghost use Rattle.box_cert.specs.Spelling.{Content, cert_text, content};
-ghost use Rattle.box_cert.specs.Text.{AreRecipes, Gives, HasDims, IsCertFor, IsTree, cert_of, claim_of, count_of, header_of, next_line, next_of, parts_of, place_of, recipes_at, trees_at};
+ghost use Rattle.box_cert.specs.Text.{AreRecipes, Gives, HasDims, IsCertFor, IsTree, cert_of, claim_of, count_of, cursor_of, header_of, next_line, next_of, parts_of, recipes_at, trees_at};
 
 use crate::fault::{CertError, fault};
 use crate::line::{read_line, read_recipe};
@@ -15,11 +15,11 @@ use box_core::{Cert, CertLine, CertRule, Claim, LineList, StepsList};
 use price_grid::Steps;
 use std::alloc::Global;
 
-/// The next line, and what stands behind it.
+/// The next line, and the text after it.
 #[tactic(auto, using(crate::proofs::TextLines::lines_cut))]
 fn next_line(text: &[u8], line: u32) -> Result<(&[u8], &[u8]), CertError>
-    ensures is { Gives (λ r. (r.0.now, place_of (line + 1) r.1.now)) result
-        (next_line (place_of line text.now)) }
+    ensures is { Gives (λ r. (r.0.now, cursor_of (line + 1) r.1.now)) result
+        (next_line (cursor_of line text.now)) }
     ensures shorter { IfOk result (λ r. length r.0.now + 1 + length r.1.now ≡ length text.now) }
 {
     match cut_at(b'\n', text) {
@@ -34,10 +34,10 @@ fn is_header(line: &[u8]) -> bool
     line == b"dye-cert 1".as_slice()
 }
 
-/// The first line.
+/// Reads the first line: the text after it.
 fn header_line(text: &[u8]) -> Result<&[u8], CertError>
-    ensures is { Gives (λ r. (tt, place_of 2 r.now)) result
-        (next_of BadHeader header_of (place_of 1 text.now)) }
+    ensures is { Gives (λ r. (tt, cursor_of 2 r.now)) result
+        (next_of BadHeader header_of (cursor_of 1 text.now)) }
     ensures shorter { IfOk result (λ r. length r.now ≤ length text.now) }
 {
     let (line, behind) = next_line(text, 1)?;
@@ -47,7 +47,7 @@ fn header_line(text: &[u8]) -> Result<&[u8], CertError>
     Ok(behind)
 }
 
-/// What a line claims of the recipes.
+/// The claim that a line spells.
 fn read_claim(line: &[u8], dims: usize) -> Option<Claim>
     requires some { 1 ≤ dims }
     requires few { dims ≤ 12 }
@@ -81,12 +81,12 @@ fn read_claim(line: &[u8], dims: usize) -> Option<Claim>
     }
 }
 
-/// The second line.
+/// Reads the second line: the claim, and the text after the line.
 fn claim_line(text: &[u8], dims: usize) -> Result<(Claim, &[u8]), CertError>
     requires some { 1 ≤ dims }
     requires few { dims ≤ 12 }
-    ensures is { Gives (λ r. (r.0, place_of 3 r.1.now)) result
-        (next_of BadClaim (claim_of dims) (place_of 2 text.now)) }
+    ensures is { Gives (λ r. (r.0, cursor_of 3 r.1.now)) result
+        (next_of BadClaim (claim_of dims) (cursor_of 2 text.now)) }
     ensures fits { IfOk result (λ r. ClaimFits r.0) }
     ensures dims { IfOk result (λ r. HasDims dims r.0) }
     ensures shorter { IfOk result (λ r. length r.1.now ≤ length text.now) }
@@ -98,7 +98,7 @@ fn claim_line(text: &[u8], dims: usize) -> Result<(Claim, &[u8]), CertError>
     }
 }
 
-/// How many recipes a line says are listed.
+/// The number of listed recipes that a line states.
 fn read_count(line: &[u8]) -> Option<u32>
     ensures is { result ≡ count_of line.now }
     ensures few { IfSome result (λ n. n ≤ 1000000) }
@@ -118,10 +118,10 @@ fn read_count(line: &[u8]) -> Option<u32>
     }
 }
 
-/// The third line.
+/// Reads the third line: the number of listed recipes, and the text after the line.
 fn count_line(text: &[u8]) -> Result<(u32, &[u8]), CertError>
-    ensures is { Gives (λ r. (r.0, place_of 4 r.1.now)) result
-        (next_of BadClaim count_of (place_of 3 text.now)) }
+    ensures is { Gives (λ r. (r.0, cursor_of 4 r.1.now)) result
+        (next_of BadClaim count_of (cursor_of 3 text.now)) }
     ensures few { IfOk result (λ r. r.0 ≤ 1000000) }
     ensures shorter { IfOk result (λ r. length r.1.now ≤ length text.now) }
 {
@@ -132,12 +132,12 @@ fn count_line(text: &[u8]) -> Result<(u32, &[u8]), CertError>
     }
 }
 
-/// A listed recipe.
+/// Reads the line of a listed recipe: the recipe, and the text after the line.
 fn recipe_line(text: &[u8], line: u32, dims: usize) -> Result<(Steps, &[u8]), CertError>
     requires some { 1 ≤ dims }
     requires few { dims ≤ 12 }
-    ensures is { Gives (λ r. (r.0.items, place_of (line + 1) r.1.now)) result
-        (next_of BadLine (recipe_of dims) (place_of line text.now)) }
+    ensures is { Gives (λ r. (r.0.items, cursor_of (line + 1) r.1.now)) result
+        (next_of BadLine (recipe_of dims) (cursor_of line text.now)) }
     ensures length { IfOk result (λ r. length r.0.items ≡ dims) }
     ensures fits { IfOk result (λ r. StepsFit r.0.items) }
     ensures shorter { IfOk result (λ r. length r.1.now ≤ length text.now) }
@@ -149,10 +149,10 @@ fn recipe_line(text: &[u8], line: u32, dims: usize) -> Result<(Steps, &[u8]), Ce
     }
 }
 
-/// A line of the tree.
+/// Reads a line of the tree: the line, and the text after it.
 fn tree_line(text: &[u8], line: u32) -> Result<(CertLine, &[u8]), CertError>
-    ensures is { Gives (λ r. (r.0, place_of (line + 1) r.1.now)) result
-        (next_of BadLine line_of (place_of line text.now)) }
+    ensures is { Gives (λ r. (r.0, cursor_of (line + 1) r.1.now)) result
+        (next_of BadLine line_of (cursor_of line text.now)) }
     ensures fits { IfOk result (λ r. LineFits r.0) }
     ensures shorter { IfOk result (λ r. length r.1.now + 2 ≤ length text.now) }
 {
@@ -163,7 +163,7 @@ fn tree_line(text: &[u8], line: u32) -> Result<(CertLine, &[u8]), CertError>
     }
 }
 
-/// So many listed recipes.
+/// Reads `count` listed recipes: the recipes, and the text after them.
 fn recipes(
     alloc: Global,
     text: &[u8],
@@ -173,8 +173,8 @@ fn recipes(
     requires some { 1 ≤ dims }
     requires few { dims ≤ 12 }
     requires count { count ≤ 1000000 }
-    ensures is { Gives (λ r. (map (λ s. s.items) r.0.items, place_of (4 + count) r.1.now)) result
-        (recipes_at dims count (place_of 4 text.now)) }
+    ensures is { Gives (λ r. (map (λ s. s.items) r.0.items, cursor_of (4 + count) r.1.now)) result
+        (recipes_at dims count (cursor_of 4 text.now)) }
     ensures recipes { IfOk result (λ r. AreRecipes dims count (map (λ s. s.items) r.0.items)) }
     ensures shorter { IfOk result (λ r. length r.1.now ≤ length text.now) }
 {
@@ -193,7 +193,7 @@ fn recipes(
     Ok((list, rest))
 }
 
-/// How many trees a line wants behind it.
+/// How many subtrees follow a line.
 fn parts_of(line: CertLine) -> u32
     ensures { result ≡ parts_of line }
 {
@@ -203,12 +203,12 @@ fn parts_of(line: CertLine) -> u32
     }
 }
 
-/// The lines of one tree, what stands behind them, and the number of the next line.
+/// Reads one tree: its lines, the text after them, and the number of the next line.
 fn tree(alloc: Global, text: &[u8], first: u32) -> Result<(Vec<CertLine>, &[u8], u32), CertError>
     requires short { length text.now ≤ 64000000 }
     requires first { first ≤ 1000004 }
-    ensures is { Gives (λ r. (r.0.items, place_of r.2 r.1.now)) result
-        (trees_at 1 (place_of first text.now)) }
+    ensures is { Gives (λ r. (r.0.items, cursor_of r.2 r.1.now)) result
+        (trees_at 1 (cursor_of first text.now)) }
     ensures tree { IfOk result (λ r. IsTree r.0.items) }
 {
     let mut lines = Vec::new(alloc);
@@ -256,17 +256,17 @@ fn whole_cert(alloc: Global, bytes: &[u8], dims: usize) -> Result<Cert, CertErro
 
 /// The certificate that the bytes spell, with recipes of so many dyes, or their first fault.
 ///
-/// Memory grows only with the lines that came, whatever number of recipes the text names.
+/// Memory grows only with the lines that are there, however many recipes the third line states.
 pub fn read_cert(alloc: Global, bytes: &[u8], dims: usize) -> Result<Cert, CertError>
     requires short { length bytes.now ≤ 64000000 }
     requires some { 1 ≤ dims }
     requires few { dims ≤ 12 }
-    // Which certificate it is, or which fault.
+    // The result is the one that the grammar defines: the certificate, or the first fault.
     ensures exact { Gives (λ cert. content cert) result (cert_of dims bytes.now) }
-    // What is read is spelled so.
+    // What is read is within its ranges, and the text is its spelling.
     ensures fits { IfOk result (λ cert. IsCertFor dims (content cert)) }
     ensures found { IfOk result (λ cert. bytes.now ≡ cert_text (content cert)) }
-    // What is spelled so is read, unless memory runs out.
+    // The spelling of a certificate is read as that certificate, unless memory runs out.
     ensures only { (c : Content) → IsCertFor dims c → bytes.now ≡ cert_text c →
         Gives (λ cert. content cert) result (Ok c) }
 {

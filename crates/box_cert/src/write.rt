@@ -3,7 +3,7 @@
 ghost use Rattle.std.specs.Prelude.{◌≡◌, ◌≤◌, ◌++◌, [], All, OnOk, flat_map, length};
 ghost use Rattle.arrayvec.specs.ArrayVec.{array_vec_len};
 ghost use Rattle.box_core.specs.Ranges.{ClaimFits, LineFits, StepsFit};
-ghost use Rattle.box_cert.specs.Spelling.{HasNumbers, cert_text, claim_text, content, ended, head_text, line_text, lines_text, numbers_text};
+ghost use Rattle.box_cert.specs.Spelling.{HasNumbers, as_line, cert_text, claim_text, content, head_text, line_text, lines_text, numbers_text};
 ghost use Rattle.box_cert.specs.Writing.{Goes, IsHeld, Writes};
 
 use crate::line::{put_line, put_recipe};
@@ -13,10 +13,10 @@ use box_core::{Cert, CertLine, Claim};
 use price_grid::Steps;
 use shelf_io::{Failed, Shelf};
 
-/// From how many bytes on a piece is appended before more is put behind it.
+/// Where more bytes than this wait, they are appended to the file before a piece is added.
 const FULL: usize = 3968;
 
-/// Appends what waits.
+/// Appends the waiting bytes to the file.
 fn flush<H: Shelf>(
     shelf: &mut H,
     name: &str,
@@ -35,7 +35,7 @@ fn flush<H: Shelf>(
     Ok(())
 }
 
-/// Appends what waits, if it is long.
+/// Appends the waiting bytes to the file where there are more than `FULL`.
 fn make_room<H: Shelf>(
     shelf: &mut H,
     name: &str,
@@ -53,7 +53,7 @@ fn make_room<H: Shelf>(
     Ok(())
 }
 
-/// Puts a piece behind what waits.
+/// Adds a piece to the waiting bytes, once there is room for it.
 fn put<H: Shelf>(
     shelf: &mut H,
     name: &str,
@@ -73,10 +73,10 @@ fn put<H: Shelf>(
     Ok(())
 }
 
-/// A line of the tree with its line feed.
+/// The text of a line of the tree, with its line feed.
 fn ended_line(line: &CertLine) -> ArrayVec<u8, 80>
     requires { LineFits line.now }
-    ensures { result.items ≡ ended (line_text line.now) }
+    ensures { result.items ≡ as_line (line_text line.now) }
 {
     let mut text = ArrayVec::new();
     put_line(line, &mut text);
@@ -84,11 +84,11 @@ fn ended_line(line: &CertLine) -> ArrayVec<u8, 80>
     text
 }
 
-/// A recipe with its line feed.
+/// The text of a recipe, with its line feed.
 fn ended_recipe(steps: &Steps) -> ArrayVec<u8, 80>
     requires some { 1 ≤ length steps.now.items }
     requires fits { StepsFit steps.now.items }
-    ensures { result.items ≡ ended (numbers_text steps.now.items) }
+    ensures { result.items ≡ as_line (numbers_text steps.now.items) }
 {
     let mut text = ArrayVec::new();
     put_recipe(steps, &mut text);
@@ -96,7 +96,7 @@ fn ended_recipe(steps: &Steps) -> ArrayVec<u8, 80>
     text
 }
 
-/// Puts the lines of the tree.
+/// Adds the lines of the tree to the waiting bytes, piece by piece.
 fn put_lines<H: Shelf>(
     shelf: &mut H,
     name: &str,
@@ -117,7 +117,7 @@ fn put_lines<H: Shelf>(
     Ok(())
 }
 
-/// Puts the listed recipes.
+/// Adds the listed recipes to the waiting bytes, piece by piece.
 fn put_recipes<H: Shelf>(
     shelf: &mut H,
     name: &str,
@@ -127,7 +127,7 @@ fn put_recipes<H: Shelf>(
     requires held { IsHeld name.now (H.view shelf.old) }
     requires some { All (λ s. 1 ≤ length s.items) recipes.now }
     requires fit { All (λ s. StepsFit s.items) recipes.now }
-    ensures goes { Goes name.now (flat_map (λ s. ended (numbers_text s.items)) recipes.now) result
+    ensures goes { Goes name.now (flat_map (λ s. as_line (numbers_text s.items)) recipes.now) result
         waiting.old.items (H.view shelf.old) waiting.new.items (H.view shelf.new) }
     ensures held { OnOk result (IsHeld name.now (H.view shelf.new)) }
 {
@@ -139,13 +139,13 @@ fn put_recipes<H: Shelf>(
     Ok(())
 }
 
-/// Appends the line of a claim, with its line feed.
+/// Adds the line of a claim, with its line feed.
 #[tactic(auto, unfolding(crate::specs::Spelling::claim_text))]
 fn put_claim(claim: &Claim, into: &mut ArrayVec<u8, 80>)
     requires fits { ClaimFits claim.now }
     requires some { HasNumbers claim.now }
     requires room { array_vec_len into.old ≡ 0 }
-    ensures text { into.new.items ≡ into.old.items ++ ended (claim_text claim.now) }
+    ensures text { into.new.items ≡ into.old.items ++ as_line (claim_text claim.now) }
 {
     match claim {
         Claim::Match(steps) => {
@@ -161,7 +161,7 @@ fn put_claim(claim: &Claim, into: &mut ArrayVec<u8, 80>)
     into.push(b'\n');
 }
 
-/// The first three lines.
+/// The text of the first three lines.
 #[tactic(auto, unfolding(crate::specs::Spelling::head_text))]
 fn head(claim: &Claim, count: usize) -> ArrayVec<u8, 128>
     requires fits { ClaimFits claim.now }
@@ -180,7 +180,7 @@ fn head(claim: &Claim, count: usize) -> ArrayVec<u8, 128>
     text
 }
 
-/// Puts the whole certificate and appends all of it.
+/// Appends the whole certificate to the file, so that no byte is left waiting.
 #[tactic(auto, unfolding(crate::specs::Spelling::cert_text))]
 fn put_cert<H: Shelf>(cert: &Cert, shelf: &mut H, name: &str) -> Result<(), Failed>
     requires { IsHeld name.now (H.view shelf.old) }
@@ -202,8 +202,9 @@ fn put_cert<H: Shelf>(cert: &Cert, shelf: &mut H, name: &str) -> Result<(), Fail
     flush(shelf, name, &mut waiting)
 }
 
-/// Makes the name hold the text of the certificate. It appends at most 4,096 bytes at a time and
-/// takes no memory. After a failure, `Failed`, the name is as before or holds a front of the text.
+/// Writes the text of the certificate to the file of this name. It appends at most 4,096 bytes at a
+/// time and allocates no memory. After a failure, `Failed`, the file is as before or holds a prefix
+/// of the text.
 pub fn write_cert<H: Shelf>(cert: &Cert, shelf: &mut H, name: &str) -> Result<(), Failed>
     requires some { 1 ≤ length name.now }
     requires short { length name.now ≤ 255 }

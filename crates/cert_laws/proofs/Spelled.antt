@@ -9,7 +9,7 @@ use Rattle.box_specs.specs.declared.certificate.CertLine.TheVariants.{Dear, Fail
 use Rattle.box_specs.specs.declared.certificate.Claim.{Claim}
 use Rattle.box_specs.specs.declared.certificate.Claim.TheVariants.{Floor, Match, NoMatch}
 use Rattle.box_core.specs.Ranges.{ClaimFits, LineFits, StepsFit}
-use Rattle.box_cert.specs.Spelling.{Content, cert_text, claim_text, count_text, ended, head_text, line_text, lines_text, numbers_text, recipes_text}
+use Rattle.box_cert.specs.Spelling.{Content, as_line, cert_text, claim_text, count_text, head_text, line_text, lines_text, numbers_text, recipes_text}
 use Rattle.box_cert.specs.Text.{HasDims, IsCertFor}
 use Rattle.cert_laws.proofs.Sizes.{line_size, total}
 
@@ -27,10 +27,10 @@ numbers_short n (m ∷ ns) h =
     let all = length-append (decimal n) (32 ∷ numbers_text (m ∷ ns)) in
     omega (arith, one, rest, all)
 
-ended_long : (line : List ℕ) → length (ended line) ≡ length line + 1
+ended_long : (line : List ℕ) → length (as_line line) ≡ length line + 1
 ended_long line = length-append line (10 ∷ [])
 
-recipe_short : (ns : List ℕ) → AllByRecursion (λ m. m ≤ 4000) ns → length ns ≤ 12 → length (ended (numbers_text ns)) ≤ 60
+recipe_short : (ns : List ℕ) → AllByRecursion (λ m. m ≤ 4000) ns → length ns ≤ 12 → length (as_line (numbers_text ns)) ≤ 60
 recipe_short [] h k = omega arith
 recipe_short (n ∷ ns) h k =
     let text = numbers_short n ns h in
@@ -42,7 +42,7 @@ recipes_short [] h k = omega arith
 recipes_short (r ∷ rs) h k =
     let one = recipe_short r (recursion_from_All (λ m. m ≤ 4000) r h.0) k.0 in
     let rest = recipes_short rs h.1 k.1 in
-    let all = length-append (ended (numbers_text r)) (recipes_text rs) in
+    let all = length-append (as_line (numbers_text r)) (recipes_text rs) in
     omega (arith, one, rest, all)
 
 line_short : (x : CertLine) → LineFits x → length (line_text x) + 1 ≤ line_size x
@@ -68,10 +68,10 @@ lines_short (x ∷ xs) h =
     let one = line_short x h.0 in
     let rest = lines_short xs h.1 in
     let line = ended_long (line_text x) in
-    let all = length-append (ended (line_text x)) (lines_text xs) in
+    let all = length-append (as_line (line_text x)) (lines_text xs) in
     omega (arith, one, rest, line, all)
 
-claim_short : (claim : Claim) (dims : ℕ) → ClaimFits claim → HasDims dims claim → dims ≤ 12 → length (ended (claim_text claim)) ≤ 66
+claim_short : (claim : Claim) (dims : ℕ) → ClaimFits claim → HasDims dims claim → dims ≤ 12 → length (as_line (claim_text claim)) ≤ 66
 claim_short (Match recipe) dims h k d =
     let one = recipe_short recipe.items (recursion_from_All (λ m. m ≤ 4000) recipe.items h) (omega (arith, k, d)) in
     let text = ended_long (numbers_text recipe.items) in
@@ -85,7 +85,7 @@ claim_short (Floor cost) dims h k d =
     let all = ended_long (claim_text (Floor cost)) in
     omega (arith, one, front, all)
 
-count_short : (n : ℕ) → n ≤ 1000000 → length (ended (count_text n)) ≤ 18
+count_short : (n : ℕ) → n ≤ 1000000 → length (as_line (count_text n)) ≤ 18
 count_short n h =
     let one = length-decimal-le 7 n (omega arith) (omega (arith, h)) (omega (arith, h)) in
     let front = length-append (codes "undecided ") (decimal n) in
@@ -96,9 +96,9 @@ count_short n h =
 pub cert_short : (dims : ℕ) (c : Content) → dims ≤ 12 → IsCertFor dims c → length (cert_text c) ≤ 100 + 60 * length c.listed + total line_size c.lines
 unfolding cert_text head_text
 cert_short dims c few h =
-    let header = ended (codes "dye-cert 1") in
-    let claim = ended (claim_text c.claim) in
-    let number = ended (count_text (length c.listed)) in
+    let header = as_line (codes "dye-cert 1") in
+    let claim = as_line (claim_text c.claim) in
+    let number = as_line (count_text (length c.listed)) in
     let head = (header ++ claim) ++ number in
     let one = claim_short c.claim dims h.numbers h.claim few in
     let two = count_short (length c.listed) h.few in

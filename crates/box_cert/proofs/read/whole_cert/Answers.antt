@@ -1,12 +1,12 @@
 use Rattle.std.proofs.Common.{ℕ, List, refl, sym, ◌∙◌, subst, arith}
-use Rattle.box_cert.specs.Text.{AreRecipes, FailsAs, IsTree, cert_of, place_of}
+use Rattle.box_cert.specs.Text.{AreRecipes, FailsAs, IsTree, cert_of, cursor_of}
 use Rattle.box_cert.proofs.Parts.{cert_parts, left_fault, not_empty, one_length}
 use Rattle.box_cert.specs.declared.fault.CertError.{CertError}
 use Rattle.box_cert.proofs.read.whole_cert.Goals as goal
 
 pub returns-then-not-is_empty-clause-exact : goal.returns-then-not-is_empty-clause-exact
 returns-then-not-is_empty-clause-exact c =
-    let read = cert_parts c.args.dims c.args.bytes.now c.in_ok-claim.claim c.in_ok-count.count _ c.in_ok-lines.lines.items _ _ _ _ (place_of c.in_ok-lines.number c.in_ok-lines.text.now)
+    let read = cert_parts c.args.dims c.args.bytes.now c.in_ok-claim.claim c.in_ok-count.count _ c.in_ok-lines.lines.items _ _ _ _ (cursor_of c.in_ok-lines.number c.in_ok-lines.text.now)
     c.in_ok-text.ensures.is c.in_ok-claim.ensures.is c.in_ok-count.ensures.is c.in_ok-listed.ensures.is c.in_ok-lines.ensures.is in
     let F : CertError → Type 0 = λ e. FailsAs e (cert_of c.args.dims c.args.bytes.now) in
     subst F (sym c.fault.ensures) (read ∙ left_fault _ c.in_ok-lines.number c.in_ok-lines.text.now (not_empty _ (sym c.is_empty.ensures ∙ c.if-not-is_empty.true)))

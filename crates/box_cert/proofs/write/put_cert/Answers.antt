@@ -2,7 +2,7 @@ use Rattle.std.proofs.Common.{◌≡◌, ◌≤◌, ◌∙◌, ℕ, List, [], le
 use Rattle.arrayvec.specs.ArrayVec.{ArrayVec}
 use Rattle.box_core.specs.Ranges.{StepsFit}
 use Rattle.box_specs.specs.declared.certificate.CertLine.{CertLine}
-use Rattle.box_cert.specs.Spelling.{cert_text, ended, head_text, lines_text, numbers_text, recipes_text}
+use Rattle.box_cert.specs.Spelling.{as_line, cert_text, head_text, lines_text, numbers_text, recipes_text}
 use Rattle.box_cert.specs.Writing.{GoesOn, GoesWrong}
 use Rattle.box_cert.proofs.Certs.{all_items, length_map, listed_have, recipes_same}
 use Rattle.box_cert.proofs.Wholes.{all_put, no_head, no_lines, no_recipes}
@@ -52,7 +52,7 @@ returns-in_default-put_recipes g c =
     let Q1 : List ℕ → Type 0 = λ w. GoesOn name c.as_slice.result.now w old w1 v1 in
     let first : GoesOn name H [] old w1 v1 = subst P1 text (subst Q1 c.new-waiting.ensures c.in-Ok.ensures.goes) in
     let v2 = g.H.Shelf.view c.put_recipes.new.shelf in
-    let spelled : flat_map (λ (s : ArrayVec ℕ). ended (numbers_text s.items)) c.as_slice-recipes.result.now ≡ R = recipes_same c.as_slice-recipes.result.now ∙ ap recipes_text c.as_slice-recipes.ensures in
+    let spelled : flat_map (λ (s : ArrayVec ℕ). as_line (numbers_text s.items)) c.as_slice-recipes.result.now ≡ R = recipes_same c.as_slice-recipes.result.now ∙ ap recipes_text c.as_slice-recipes.ensures in
     let P : List ℕ → Type 0 = λ t. GoesWrong name t w1 v1 v2 in
     no_recipes name H R L old w1 v1 first v2 (subst P spelled c.in_default-put_recipes.ensures.goes)
 
@@ -73,7 +73,7 @@ returns-in_default-put_lines g c =
     let Q1 : List ℕ → Type 0 = λ w. GoesOn name c.as_slice.result.now w old w1 v1 in
     let first : GoesOn name H [] old w1 v1 = subst P1 text (subst Q1 c.new-waiting.ensures c.in-Ok.ensures.goes) in
     let v2 = g.H.Shelf.view c.put_recipes.new.shelf in
-    let spelled : flat_map (λ (s : ArrayVec ℕ). ended (numbers_text s.items)) c.as_slice-recipes.result.now ≡ R = recipes_same c.as_slice-recipes.result.now ∙ ap recipes_text c.as_slice-recipes.ensures in
+    let spelled : flat_map (λ (s : ArrayVec ℕ). as_line (numbers_text s.items)) c.as_slice-recipes.result.now ≡ R = recipes_same c.as_slice-recipes.result.now ∙ ap recipes_text c.as_slice-recipes.ensures in
     let w2 = c.put_recipes.new.waiting.items in
     let P2 : List ℕ → Type 0 = λ t. GoesOn name t w1 v1 w2 v2 in
     let second : GoesOn name R w1 v1 w2 v2 = subst P2 spelled c.in-Ok-put_recipes.ensures.goes in
@@ -98,7 +98,7 @@ returns g c =
     let Q1 : List ℕ → Type 0 = λ w. GoesOn name c.as_slice.result.now w old w1 v1 in
     let first : GoesOn name H [] old w1 v1 = subst P1 text (subst Q1 c.new-waiting.ensures c.in-Ok.ensures.goes) in
     let v2 = g.H.Shelf.view c.put_recipes.new.shelf in
-    let spelled : flat_map (λ (s : ArrayVec ℕ). ended (numbers_text s.items)) c.as_slice-recipes.result.now ≡ R = recipes_same c.as_slice-recipes.result.now ∙ ap recipes_text c.as_slice-recipes.ensures in
+    let spelled : flat_map (λ (s : ArrayVec ℕ). as_line (numbers_text s.items)) c.as_slice-recipes.result.now ≡ R = recipes_same c.as_slice-recipes.result.now ∙ ap recipes_text c.as_slice-recipes.ensures in
     let w2 = c.put_recipes.new.waiting.items in
     let P2 : List ℕ → Type 0 = λ t. GoesOn name t w1 v1 w2 v2 in
     let second : GoesOn name R w1 v1 w2 v2 = subst P2 spelled c.in-Ok-put_recipes.ensures.goes in

@@ -1,4 +1,4 @@
--- What was read already, in front of what is read next.
+-- What was read already, before what is read next.
 use Rattle.std.proofs.Common.{◌≡◌, ℕ, suc, ◌+◌, List, [], ◌∷◌, ◌++◌, refl, ap, arith, append_assoc, subst}
 use Rattle.std.specs.Prelude.{Option, Some, None, Result, Ok, Err}
 use Rattle.box_specs.specs.Validity.{are_trees}
@@ -9,23 +9,23 @@ use Rattle.box_specs.specs.declared.certificate.CertRule.TheVariants.{BadLine}
 use Rattle.box_cert.specs.declared.fault.CertError.{CertError}
 use Rattle.box_cert.specs.declared.fault.CertError.TheVariants as errors
 use Rattle.box_cert.specs.Lines.{line_of}
-use Rattle.box_cert.specs.Text.{◌>>=◌, FailsAs, Place, line_then, next_of, parts_of, said, trees_at, trees_from}
+use Rattle.box_cert.specs.Text.{◌>>=◌, Cursor, FailsAs, line_result, line_then, next_of, parts_of, trees_at, trees_from}
 
-abbrev pub with_front : {A : Type 0} → List A → Result (List A × Place) CertFault → Result (List A × Place) CertFault
-with_front front read = read >>= λ r. Ok (front ++ r.0, r.1)
+abbrev pub with_prefix : {A : Type 0} → List A → Result (List A × Cursor) CertFault → Result (List A × Cursor) CertFault
+with_prefix prefix read = read >>= λ r. Ok (prefix ++ r.0, r.1)
 
-abbrev pub onto : {A : Type 0} → A → Result (List A × Place) CertFault → Result (List A × Place) CertFault
+abbrev pub onto : {A : Type 0} → A → Result (List A × Cursor) CertFault → Result (List A × Cursor) CertFault
 onto x read = read >>= λ r. Ok (x ∷ r.0, r.1)
 
-pub front_more : {A : Type 0} (xs : List A) (x : A) (read : Result (List A × Place) CertFault) → with_front (xs ++ x ∷ []) read ≡ with_front xs (onto x read)
-front_more xs x (Ok r) = ap (λ ys. Ok (ys, r.1)) (append_assoc xs (x ∷ []) r.0)
-front_more xs x (Err e) = refl
+pub prefix_more : {A : Type 0} (xs : List A) (x : A) (read : Result (List A × Cursor) CertFault) → with_prefix (xs ++ x ∷ []) read ≡ with_prefix xs (onto x read)
+prefix_more xs x (Ok r) = ap (λ ys. Ok (ys, r.1)) (append_assoc xs (x ∷ []) r.0)
+prefix_more xs x (Err e) = refl
 
-pub front_none : {A : Type 0} (read : Result (List A × Place) CertFault) → with_front [] read ≡ read
-front_none (Ok r) = refl
-front_none (Err e) = refl
+pub prefix_none : {A : Type 0} (read : Result (List A × Cursor) CertFault) → with_prefix [] read ≡ read
+prefix_none (Ok r) = refl
+prefix_none (Err e) = refl
 
--- a fault stays through what would be read behind it
+-- a fault stays the result, whatever would be read after it
 pub fails_then : {A B : Type 0} (e : CertError) (read : Result A CertFault) (f : A → Result B CertFault) → FailsAs e read → FailsAs e (read >>= f)
 fails_then errors.Memory read f h = tt
 fails_then (errors.Fault x) read f h = ap (λ r. r >>= f) h
@@ -38,15 +38,15 @@ pub trees_next : (k number : ℕ) (lines : List (List ℕ)) (left : List ℕ) �
     ≡ (next_of BadLine line_of (record { number = number; lines = lines; left = left }) >>= λ r. onto r.0 (trees_at (parts_of r.0 + k) r.1))
 trees_next k number [] left = refl
 trees_next k number (text ∷ lines) left = go (line_of text) where
-  p : Place
+  p : Cursor
   p = record { number = number + 1; lines = lines; left = left }
 
   go : (o : Option CertLine) → line_then number o (λ line. trees_from (parts_of line + k) (number + 1) lines left)
-      ≡ (said number BadLine o p >>= λ r. onto r.0 (trees_at (parts_of r.0 + k) r.1))
+      ≡ (line_result number BadLine o p >>= λ r. onto r.0 (trees_at (parts_of r.0 + k) r.1))
   go None = refl
   go (Some line) = refl
 
--- one line more of a tree
+-- one more line of a tree
 pub shape_on : (k : ℕ) (line : CertLine) (more : List CertLine) → are_trees (suc k) (line ∷ more) ≡ are_trees (parts_of line + k) more
 shape_on k (Split dye mid) more = let e : suc (suc k) ≡ 2 + k = omega arith in ap (λ n. are_trees n more) e
 shape_on k (Limit x) more = let e : k ≡ 0 + k = omega arith in ap (λ n. are_trees n more) e
