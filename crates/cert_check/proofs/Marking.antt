@@ -1,4 +1,4 @@
--- Marks beside the listed recipes.
+-- The marks of the listed recipes.
 use Rattle.std.proofs.Common.{◌≡◌, ◌+◌, ◌<◌, ◌||◌, ◌++◌, ℕ, suc, List, [], ◌∷◌, Bool, true, false, length, get_or, set, replicate, refl, sym, ap, subst, ◌∙◌, inl, inr, arith}
 use Rattle.std.proofs.lemmas.Bool.{cases_lt, false≢true}
 use Rattle.std.proofs.lemmas.List.{get_or-replicate, get_or-set_other, get_or-set_same, length-replicate, length-set}
@@ -41,9 +41,9 @@ mark_none listed marks b line e h =
           (differs (get_or listed k []) b.lo (λ same. false≢true (sym h ∙ listed_at listed b.lo k lt same)))));
     })
 
--- two places of a rising list hold two recipes
-other_place : (l : Land) (listed : List (List ℕ)) (i k : ℕ) → IsSorted l listed → i < k → k < length listed → get_or listed i [] ≡ get_or listed k [] → ⊥
-other_place l listed i k s lt le e =
+-- two indexes of a rising list have different recipes
+other_index : (l : Land) (listed : List (List ℕ)) (i k : ℕ) → IsSorted l listed → i < k → k < length listed → get_or listed i [] ≡ get_or listed k [] → ⊥
+other_index l listed i k s lt le e =
     false≢true (sym (never_before_itself l (get_or listed k [])) ∙ subst (λ r. is_before l r (get_or listed k []) ≡ true) e (s.rising i k lt le))
 
 pub mark_some : (l : Land) (listed : List (List ℕ)) (marks : List Bool) (b : Span) (line : CertLine) (i : ℕ) → IsSorted l listed
@@ -60,9 +60,9 @@ mark_some l listed marks b line i s long e there at =
 
       each : (k : ℕ) → k < length listed → get_or (set marks i true) k false ≡ get_or marks k false || is_listed (b.lo ∷ []) (get_or listed k [])
       each k lt = elim (cases_lt k i) as (λ _. get_or (set marks i true) k false ≡ get_or marks k false || is_listed (b.lo ∷ []) (get_or listed k [])) [
-        | inl less ↦ other k lt (λ same. absurd (omega arith)) (λ same. other_place l listed k i s less there same)
+        | inl less ↦ other k lt (λ same. absurd (omega arith)) (λ same. other_index l listed k i s less there same)
         | inr more ↦ elim (cases_lt i k) as (λ _. get_or (set marks i true) k false ≡ get_or marks k false || is_listed (b.lo ∷ []) (get_or listed k [])) [
-          | inl past ↦ other k lt (λ same. absurd (omega arith)) (λ same. other_place l listed i k s past lt (sym same))
+          | inl past ↦ other k lt (λ same. absurd (omega arith)) (λ same. other_index l listed i k s past lt (sym same))
           | inr level ↦
               let same : i ≡ k = omega arith in
               let within : i < length marks = omega arith in

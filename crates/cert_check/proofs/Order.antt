@@ -20,14 +20,14 @@ differs a b h = go (same_steps a b) refl where
   go true e = absurd (h (same_is a b e))
   go false e = refl
 
--- a recipe that is in no place of a list is not listed
+-- a recipe that is at no index of a list is not listed
 pub not_listed : (listed : List (List ℕ)) (r : List ℕ) → ((k : ℕ) → k < length listed → get_or listed k [] ≡ r → ⊥) → is_listed listed r ≡ false
 not_listed [] r h = refl
 not_listed (s ∷ listed) r h =
     rw (differs r s (λ e. h 0 (omega arith) (sym e)))
     (not_listed listed r (λ k lt e. h (suc k) (omega arith) e))
 
--- and one in some place is
+-- a recipe at some index is listed
 pub listed_at : (listed : List (List ℕ)) (r : List ℕ) (k : ℕ) → k < length listed → get_or listed k [] ≡ r → is_listed listed r ≡ true
 listed_at [] r k h e = absurd (omega arith)
 listed_at (s ∷ listed) r zero h e = rw (subst (λ t. same_steps r t ≡ true) (sym e) (itself r)) refl
@@ -36,7 +36,7 @@ listed_at (s ∷ listed) r (suc k) h e = or_right (same_steps r s) (is_listed li
   or_right true b h = refl
   or_right false b h = h
 
--- what comparing the recipe at a place with another one shows
+-- the comparison of the recipe at an index with another one
 pub not_there : (listed : List (List ℕ)) (t r : List ℕ) (i : ℕ) (b : Bool) → b ≡ same_steps t r → b ≡ false → t ≡ get_or listed i [] → get_or listed i [] ≡ r → ⊥
 not_there listed t r i b h other e at = false≢true (sym other ∙ h ∙ subst (λ s. same_steps s r ≡ true) (sym (e ∙ at)) (itself r))
 
@@ -51,7 +51,7 @@ module _ (l : Land) where
     go false e = absurd (false≢true (sym (not_before_trans l b a c e (not_both_before l a b h)) ∙ k))
 
   module _ (listed : List (List ℕ)) (r : List ℕ) (sorted : IsSorted l listed) where
-    -- what stands before a recipe that stands before another does so too
+    -- where the recipe in the middle comes before another, so does each one up to the middle
     pub below_mid : (mid : ℕ) → mid < length listed → is_before l (get_or listed mid []) r ≡ true
         → (k : ℕ) → k < mid + 1 → is_before l (get_or listed k []) r ≡ true
     below_mid mid h b k lt = elim (cases_lt k mid) as (λ _. is_before l (get_or listed k []) r ≡ true) [
@@ -70,7 +70,7 @@ module _ (l : Land) where
           subst (λ i. is_before l (get_or listed i []) r ≡ false) same b
     ]
 
-    -- where the first recipe that does not stand before another is not that one, no recipe is
+    -- where the first recipe that does not come before another is not that one, no recipe of the list is
     pub none_there : (i : ℕ) → i ≤ length listed → ((k : ℕ) → k < i → is_before l (get_or listed k []) r ≡ true)
         → ((k : ℕ) → i ≤ k → k < length listed → is_before l (get_or listed k []) r ≡ false)
         → (i < length listed → get_or listed i [] ≡ r → ⊥) → is_listed listed r ≡ false

@@ -81,19 +81,19 @@ listed_has Q (s ∷ rs) r all h = go (same_steps r s) refl h (λ k. listed_has Q
   go true e k rest = subst Q (sym (same_is r s e)) all.0
   go false e k rest = rest k
 
--- a recipe comes at the claim or after it
+-- a recipe is that of a match or after it, or costs at least a floor
 abbrev pub IsLate : Land → Claim → List ℕ → Type 0
 IsLate l (Match recipe) steps = is_before l steps recipe.items ≡ false
 IsLate l NoMatch steps = ⊥
 IsLate l (Floor cost) steps = cost ≤ l.cost steps
 
--- each admitted recipe of a box fails, or is listed, or comes late
+-- each admitted recipe of a box fails, or is listed, or is late
 pub record Settles (l : Land) (claim : Claim) (listed : List (List ℕ)) (b : Span) : Type 0 where
   pub each : (steps : List ℕ) → IsWithin steps b → is_admitted l steps ≡ true
       → ((l.grade steps ≡ fails) ⊎ (is_listed listed steps ≡ true)) ⊎ IsLate l claim steps
 
 module _ (l : Land) (lawful : IsLawful l) where
-  -- no recipe of a box stands before its lower corner
+  -- no recipe of a box comes before its lower corner
   not_before_corner : (b : Span) (steps : List ℕ) → IsPart l b → IsWithin steps b → is_before l steps b.lo ≡ false
   not_before_corner b steps p h =
       then_not_less (nat_cmp (l.cost steps) (l.cost b.lo)) (slice_cmp nat_cmp steps b.lo)
@@ -168,7 +168,7 @@ module _ (l : Land) (lawful : IsLawful l) where
       ];
     }
 
-    -- what a line that holds settles, once the boxes that it leaves are settled
+    -- a line that holds settles its box, once the boxes that it leaves are settled
     settles_on : (b : Span) (bs : List Span) (x : CertLine) → IsPart l b → line_fault l claim listed b x ≡ None
         → AllByRecursion (Settles l claim listed) (after b bs x) → AllByRecursion (Settles l claim listed) (b ∷ bs)
     settles_on b bs (Split zero mid) p h all = absurd (false≢true (unless_none false BadSplit None h).0)
@@ -210,7 +210,7 @@ module _ (l : Land) (lawful : IsLawful l) where
         settles_on b bs x parts.0 here
         (sound (n + 1) (after b bs x) xs (after_parts l b bs x parts.0 (can_be_cut l claim listed b x here) parts.1) (trees_on b bs x xs here t) both.1)
 
-    -- what a line that holds shows of the lower corner of its box holds of the corners of all such lines
+    -- what follows from a line that holds, of the lower corner of its box, holds of the corners of all such lines
     corners_hold : (test : CertLine → Bool) (Q : List ℕ → Type 0)
         → ((b : Span) (x : CertLine) → test x ≡ true → line_fault l claim listed b x ≡ None → Q b.lo)
         → (n : ℕ) (bs : List Span) (xs : List CertLine) → line_failure l claim listed n bs xs ≡ None → AllByRecursion Q (corners test bs xs)
@@ -296,9 +296,9 @@ claimed_means l (Floor cost) listed w s us all h = λ steps i a cheap. elim (s.e
 
 -- a claim of no recipe but this one
 pub record ClaimsOnly (claim : Claim) (recipe : List ℕ) : Type 0 where
-  pub only : (steps : List ℕ) → is_claimed claim steps ≡ true → same_steps recipe steps ≡ true
+  pub recipe_is : (steps : List ℕ) → is_claimed claim steps ≡ true → same_steps recipe steps ≡ true
 
--- where the walk goes through, each pass line is that of the recipe of the match
+-- where no line fails, each pass line is that of the recipe of the match
 passes_on : (l : Land) (claim : Claim) (recipe : List ℕ) (listed : List (List ℕ)) (b : Span) (x : CertLine) → ClaimsOnly claim recipe
     → line_fault l claim listed b x ≡ None → (rest : List (List ℕ)) (more : Bool) → more ≡ is_listed rest recipe
     → is_pass_line x || more ≡ is_listed (if is_pass_line x then b.lo ∷ rest else rest) recipe
@@ -310,7 +310,7 @@ passes_on l claim recipe listed b Undecided c h rest more e = e
 passes_on l claim recipe listed b Pass c h rest more e =
     let one = unless_none _ NotPoint _ h in
     let two = unless_none _ NotPassing _ one.1 in
-    let same = c.only b.lo (unless_none _ WrongList None two.1).0 in
+    let same = c.recipe_is b.lo (unless_none _ WrongList None two.1).0 in
     sym (ap (λ t. t || is_listed rest recipe) same)
 
 pub pass_known : (l : Land) (lawful : IsLawful l) (claim : Claim) (recipe : List ℕ) (listed : List (List ℕ)) (n : ℕ) (bs : List Span) (xs : List CertLine)
@@ -328,7 +328,7 @@ pub unclaimed_is : (l : Land) (lawful : IsLawful l) (claim : Claim) (listed : Li
     → are_trees 1 xs ≡ true → line_failure l claim listed n (l.top ∷ []) xs ≡ None
     → unclaimed_by claim xs ≡ unclaimed_failure l claim (corners is_pass_line (l.top ∷ []) xs)
 unclaimed_is l lawful (Match recipe) listed n xs t w =
-    ap (λ b. or_wrong b None 2) (pass_known l lawful (Match recipe) recipe.items listed n (l.top ∷ []) xs (record { only = λ steps e. e }) t w)
+    ap (λ b. or_wrong b None 2) (pass_known l lawful (Match recipe) recipe.items listed n (l.top ∷ []) xs (record { recipe_is = λ steps e. e }) t w)
 unclaimed_is l lawful NoMatch listed n xs t w = refl
 unclaimed_is l lawful (Floor cost) listed n xs t w = refl
 

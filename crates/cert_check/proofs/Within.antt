@@ -52,7 +52,7 @@ in_grid_is l steps lawful h = within_is steps l.top.lo l.top.hi lawful.top h
 pub in_top_is : (l : Land) (steps : List ℕ) (top : Span) → IsLawful l → top ≡ l.top → is_within steps top.lo top.hi ≡ true → IsWithin steps l.top
 in_top_is l steps top lawful e h = in_grid_is l steps lawful (subst (λ (b : Span). is_within steps b.lo b.hi ≡ true) e h)
 
--- nothing at this line, or that the list is wrong
+-- no failure, or the failure at this line that the list is wrong
 abbrev pub or_wrong : Bool → Option (ℕ × Why) → ℕ → Option (ℕ × Why)
 or_wrong t next n = if t then next else Some (n, WrongList)
 
@@ -65,7 +65,7 @@ claim_is l (Match recipe) lawful h = go (is_in_grid l recipe.items) refl h where
 claim_is l NoMatch lawful h = tt
 claim_is l (Floor cost) lawful h = tt
 
--- one listed recipe more
+-- one more listed recipe
 pub list_step : (l : Land) (claim : Claim) (n : ℕ) (previous : Option (List ℕ)) (listed : List (List ℕ)) (i : ℕ) → i < length listed
     → list_failure l claim n previous (drop i listed)
     ≡ or_wrong (is_in_grid l (get_or listed i []) && is_later l previous (get_or listed i []) && is_early l claim (get_or listed i []))
@@ -87,7 +87,7 @@ pub grid_of : (l : Land) (a b c : Bool) → a && b && c ≡ true → a ≡ true
 grid_of l true b c h = refl
 grid_of l false b c h = h
 
--- what a list without a failure shows: its recipes are of the grid, each stands after the previous one, and so after all before it
+-- the recipes of a list without a failure are of the grid, and each comes after the previous one, and so after all before it
 pub record Shown (l : Land) (claim : Claim) (previous : Option (List ℕ)) (listed : List (List ℕ)) : Type 0 where
   pub grid : (k : ℕ) → k < length listed → IsWithin (get_or listed k []) l.top
   pub early : (k : ℕ) → k < length listed → is_early l claim (get_or listed k []) ≡ true

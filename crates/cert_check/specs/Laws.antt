@@ -13,6 +13,6 @@ use Rattle.box_specs.specs.Validity.{IsValid}
 abbrev pub ValidMeans : Land → Type 0
 ValidMeans l = (claim : Claim) (listed : List (List ℕ)) (lines : List CertLine) → IsLawful l → IsValid l claim listed lines → Means l listed claim
 
--- the recipes of which such a claim speaks are those of the plain list
+-- the recipes of the grid, of which a claim speaks, are those of the plain list
 abbrev pub GridIsListed : Land → Type 0
 GridIsListed l = IsBox l.top → (steps : List ℕ) → IsWithin steps l.top ↔ Contains (all_recipes l) steps

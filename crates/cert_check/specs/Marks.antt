@@ -1,17 +1,17 @@
--- Marks beside the listed recipes, one for each: it has an undecided line.
+-- A mark for each listed recipe: whether it has an undecided line.
 use Rattle.std.specs.Prelude.{◌≡◌, ◌<◌, ◌+◌, ◌||◌, ℕ, Bool, false, Option, Some, None, List, [], ◌∷◌, length, slice_index_or, if◌then◌else◌}
 use Rattle.box_specs.specs.declared.certificate.CertLine.{CertLine}
 use Rattle.box_specs.specs.declared.certificate.Why.{Why}
 use Rattle.box_specs.specs.declared.certificate.Why.TheVariants.{WrongList}
 use Rattle.box_specs.specs.Validity.{is_listed, is_pass_line}
 
--- the marks with those of more recipes
+-- new is old with marks for some more recipes
 pub record MarksMore (old new : List Bool) (recipes listed : List (List ℕ)) : Type 0 where
   pub long : length new ≡ length old
   pub each : (k : ℕ) → k < length listed
       → slice_index_or new k false ≡ slice_index_or old k false || is_listed recipes (slice_index_or listed k [])
 
--- the marks, with those of the recipes to come, are those of all recipes
+-- the marks so far, with those of the recipes to come, are the marks of all recipes
 pub record HasMarks (marks : List Bool) (coming listed all : List (List ℕ)) : Type 0 where
   pub long : length marks ≡ length listed
   pub each : (k : ℕ) → k < length listed

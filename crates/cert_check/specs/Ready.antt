@@ -1,11 +1,11 @@
--- What the check of a claim and of a list has shown, before the lines of the tree are walked.
+-- What is known of the claim and of the list once they are checked, before the walk over the lines of the tree.
 use Rattle.std.specs.Prelude.{◌≡◌, ◌<◌, ℕ, zero, suc, true, Option, Some, None, List, length, slice_index_or, []}
 use Rattle.box_specs.specs.declared.certificate.Claim.{Claim}
 use Rattle.box_specs.specs.declared.certificate.Claim.TheVariants.{Floor, Match, NoMatch}
 use Rattle.box_specs.specs.Landscape.{IsLawful, Land, is_before}
 use Rattle.box_specs.specs.Span.{IsBox, IsInside, IsWithin, Span}
 
--- the listed recipe before the one of this index, if there is one
+-- the listed recipe before the one at this index, if there is one
 abbrev pub previous_of : List (List ℕ) → ℕ → Option (List ℕ)
 previous_of listed zero = None
 previous_of listed (suc i) = Some (slice_index_or listed i [])

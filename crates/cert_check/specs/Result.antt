@@ -1,4 +1,4 @@
--- What comes of a check.
+-- The result of a check.
 use Rattle.std.specs.Prelude.{◌+◌, ℕ, Bool, true, false, if◌then◌else◌, Option, Some, None, List, [], ◌∷◌, length}
 use Rattle.box_specs.specs.declared.certificate.Checked.{Checked}
 use Rattle.box_specs.specs.declared.certificate.Checked.TheVariants.{Accepted, Refused}
@@ -25,7 +25,7 @@ tree_failure l claim listed lines =
     (or_next (unmarked_failure l (corners is_undecided_line (l.top ∷ []) lines) 4 listed)
     (unclaimed_failure l claim (corners is_pass_line (l.top ∷ []) lines)))
 
--- what judging a box answers
+-- the result of judging a box is that its one recipe is undecided, or that it passes
 abbrev pub is_undecided_answer : Judged → Bool
 is_undecided_answer (Limit k) = false
 is_undecided_answer (Fail j) = false
@@ -40,7 +40,7 @@ is_pass_answer StillOpen = false
 is_pass_answer Pass = true
 is_pass_answer Undecided = false
 
--- the recipe of a match has its line where some line is a pass line
+-- a match fails where no line is a pass line
 abbrev pub unclaimed_by : Claim → List CertLine → Option (ℕ × Why)
 unclaimed_by (Match recipe) lines = if has_pass_line lines then None else Some (2, WrongList)
 unclaimed_by NoMatch lines = None

@@ -11,12 +11,12 @@ use Rattle.box_specs.specs.Validity.{after, is_undecided_line, line_fault, split
 use Rattle.cert_check.specs.Marks.{MarksMore}
 use Rattle.cert_check.specs.Ready.{IsPart}
 
--- why a line does not hold for the first of the boxes that wait
+-- why a line does not hold for the first of the waiting boxes
 abbrev pub next_fault : Land → Claim → List (List ℕ) → List Span → CertLine → Option Why
 next_fault l claim listed [] line = None
 next_fault l claim listed (b ∷ waiting) line = line_fault l claim listed b line
 
--- the boxes that wait after it
+-- the boxes that wait after the line
 abbrev pub next_waiting : List Span → CertLine → List Span
 next_waiting [] line = []
 next_waiting (b ∷ waiting) line = after b waiting line
@@ -42,7 +42,7 @@ CanBeCut b Dear = Unit {0}
 CanBeCut b Undecided = Unit {0}
 CanBeCut b Pass = Unit {0}
 
--- What a line that holds leaves: the boxes that wait after it, which are boxes of the landscape, and the mark of its recipe
+-- What a line that holds changes: the waiting boxes, which stay boxes of the landscape, and the mark of its recipe
 pub record Advances (l : Land) (listed : List (List ℕ)) (line : CertLine) (before now : List Span) (old new : List Bool) : Type 0 where
   pub waiting : now ≡ next_waiting before line
   pub parts : AllByRecursion (IsPart l) now

@@ -14,7 +14,7 @@ use crate::walking::walk;
 use box_core::{Cert, CertLine, Checked, Claim, Landscape, StepsList, Why};
 use std::alloc::{AllocError, Global};
 
-/// Where a match has no pass line.
+/// The failure of a match that has no pass line.
 fn unclaimed_failure(claim: &Claim, lines: &[CertLine]) -> Option<(u32, Why)>
     ensures { result ≡ unclaimed_by claim.now lines.now }
 {
@@ -31,7 +31,7 @@ fn unclaimed_failure(claim: &Claim, lines: &[CertLine]) -> Option<(u32, Why)>
     }
 }
 
-/// Where the lines of the tree first fail, or the list or the claim against them.
+/// The first failure of the lines of the tree, or else of the list or the claim against them.
 fn tree_failure<L: Landscape>(
     alloc: Global,
     land: &L,
@@ -61,7 +61,7 @@ fn tree_failure<L: Landscape>(
     Ok(unclaimed_failure(claim, lines))
 }
 
-/// Where a certificate first fails.
+/// The first failure of a certificate.
 fn first_failure<L: Landscape>(
     alloc: Global,
     land: &L,
@@ -92,7 +92,7 @@ fn first_failure<L: Landscape>(
     )
 }
 
-/// Accepted, where nothing fails.
+/// Accepted where nothing fails, and else refused with the first failure.
 fn checked_of(failure: Option<(u32, Why)>) -> Checked
     ensures { result ≡ checked_of failure }
 {
@@ -103,7 +103,7 @@ fn checked_of(failure: Option<(u32, Why)>) -> Checked
 }
 
 /// Checks a certificate. It is accepted exactly where it is valid, and then what it claims holds of
-/// the plain list of recipes. Else the answer is where it first fails.
+/// the plain list of recipes. Else the result is the line of its first failure, and why it fails.
 pub fn check<L: Landscape>(
     alloc: Global,
     land: &L,

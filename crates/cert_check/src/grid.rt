@@ -39,7 +39,7 @@ pub(crate) fn is_in_box(part: &BoxR, steps: &Steps) -> bool
     is_between(steps.as_slice(), part.lo.as_slice(), part.hi.as_slice())
 }
 
-/// Whether a recipe stands before another.
+/// Whether a recipe comes before another in the order by cost and then by steps.
 pub(crate) fn is_before<L: Landscape>(land: &L, a: &Steps, b: &Steps) -> bool
     requires first { IsWithin a.now.items (L.land land.now).top }
     requires second { IsWithin b.now.items (L.land land.now).top }

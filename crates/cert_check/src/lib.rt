@@ -1,5 +1,5 @@
 //! Checking a certificate: each line of its tree against its box, and the listed recipes against
-//! those lines. What is accepted means its claim, over the plain list of recipes.
+//! those lines. What an accepted certificate claims holds of the plain list of recipes.
 #![tactic(auto)]
 
 mod checking;

@@ -9,18 +9,18 @@ ghost use Rattle.cert_check.specs.Result.{is_pass_answer, is_undecided_answer};
 ghost use Rattle.cert_check.specs.Walk.{AtMostOne};
 
 use crate::grid::{is_before, is_same};
-use crate::list::place_of;
+use crate::list::index_of;
 use box_core::{BoxR, CertLine, Claim, Judged, Landscape, StepsList, Why, corner_key, halves};
 use price_grid::Steps;
 
-/// Nothing where a line holds, and else why it does not.
+/// None where a line holds, and else why it does not.
 fn unless(holds: bool, why: Why) -> Option<Why>
     ensures { result ≡ unless holds why None }
 {
     if holds { None } else { Some(why) }
 }
 
-/// Whether the box can be split there.
+/// Whether the box can be split after `mid` steps of the dye of this number, from 1.
 fn can_split(part: &BoxR, dye: u8, mid: u16) -> bool
     ensures { result ≡ splits part.now dye mid }
 {
@@ -78,7 +78,7 @@ fn is_listed<L: Landscape>(land: &L, listed: &StepsList, steps: &Steps) -> bool
     requires recipe { IsWithin steps.now.items (L.land land.now).top }
     ensures { result ≡ is_listed listed.now steps.now.items }
 {
-    place_of(land, listed, steps).is_some()
+    index_of(land, listed, steps).is_some()
 }
 
 /// Why an undecided line does not hold.

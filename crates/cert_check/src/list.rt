@@ -10,7 +10,7 @@ use crate::grid::{count_of, is_before, is_in_box, is_same, recipe_at};
 use box_core::{BoxR, Claim, Landscape, StepsList, Why};
 use price_grid::Steps;
 
-/// Where a claim fails: a match of a recipe that is not of the grid.
+/// The failure of a claim: a match of a recipe that is not of the grid.
 pub(crate) fn claim_failure<L: Landscape>(land: &L, claim: &Claim) -> Option<(u32, Why)>
     ensures { result ≡ claim_failure (L.land land.now) claim.now }
 {
@@ -27,7 +27,7 @@ pub(crate) fn claim_failure<L: Landscape>(land: &L, claim: &Claim) -> Option<(u3
     }
 }
 
-/// Whether a recipe stands before that of a match.
+/// Whether a recipe comes before that of a match, if the claim is a match.
 fn is_early<L: Landscape>(land: &L, claim: &Claim, steps: &Steps) -> bool
     requires claimed { ClaimIsWithin (L.land land.now) claim.now }
     requires recipe { IsWithin steps.now.items (L.land land.now).top }
@@ -40,7 +40,7 @@ fn is_early<L: Landscape>(land: &L, claim: &Claim, steps: &Steps) -> bool
     }
 }
 
-/// Whether a listed recipe stands after the one before it.
+/// Whether a listed recipe comes after the previous one of the list, if there is one.
 fn is_later<L: Landscape>(land: &L, listed: &StepsList, i: usize) -> bool
     requires there { i < length listed.now }
     requires recipe { IsWithin (slice_index_or listed.now i []) (L.land land.now).top }
@@ -52,9 +52,9 @@ fn is_later<L: Landscape>(land: &L, listed: &StepsList, i: usize) -> bool
     i == 0 || is_before(land, recipe_at(listed, i - 1), recipe_at(listed, i))
 }
 
-/// Whether a listed recipe is of the grid, stands after the one before it, and before that of a
-/// match.
-fn is_in_place<L: Landscape>(
+/// Whether a listed recipe is of the grid, comes after the previous one of the list, and comes
+/// before that of a match.
+fn is_in_order<L: Landscape>(
     land: &L,
     top: &BoxR,
     claim: &Claim,
@@ -79,7 +79,7 @@ fn is_in_place<L: Landscape>(
     is_later(land, listed, i) && is_early(land, claim, steps)
 }
 
-/// The first listed recipe that does not stand in its place. They stand from line 4 on.
+/// The first listed recipe that is not in order. The list begins in line 4.
 pub(crate) fn list_failure<L: Landscape>(
     land: &L,
     claim: &Claim,
@@ -91,18 +91,18 @@ pub(crate) fn list_failure<L: Landscape>(
 {
     let top = land.top();
     for i in 0..count_of(listed) {
-        if !is_in_place(land, &top, claim, listed, i) {
+        if !is_in_order(land, &top, claim, listed, i) {
             return Some((4 + i as u32, Why::WrongList));
         }
     }
     None
 }
 
-/// The first place in a rising list at which a recipe does not stand before this one.
+/// The first index in a rising list whose recipe does not come before this one.
 fn lower_bound<L: Landscape>(land: &L, listed: &StepsList, steps: &Steps) -> usize
     requires sorted { IsSorted (L.land land.now) listed.now }
     requires recipe { IsWithin steps.now.items (L.land land.now).top }
-    ensures within { result ≤ length listed.now }
+    ensures in_list { result ≤ length listed.now }
     ensures below { (k : ℕ) → k < result
         → is_before (L.land land.now) (slice_index_or listed.now k []) steps.now.items ≡ true }
     ensures above { (k : ℕ) → result ≤ k → k < length listed.now
@@ -121,12 +121,12 @@ fn lower_bound<L: Landscape>(land: &L, listed: &StepsList, steps: &Steps) -> usi
     low
 }
 
-/// The place of a recipe in a rising list.
-pub(crate) fn place_of<L: Landscape>(land: &L, listed: &StepsList, steps: &Steps) -> Option<usize>
+/// The index of a recipe in a rising list.
+pub(crate) fn index_of<L: Landscape>(land: &L, listed: &StepsList, steps: &Steps) -> Option<usize>
     requires sorted { IsSorted (L.land land.now) listed.now }
     requires recipe { IsWithin steps.now.items (L.land land.now).top }
     ensures listed { is_some result ≡ is_listed listed.now steps.now.items }
-    ensures place { IfSome result (λ i. (i < length listed.now)
+    ensures index { IfSome result (λ i. (i < length listed.now)
         × (slice_index_or listed.now i [] ≡ steps.now.items)) }
 {
     let i = lower_bound(land, listed, steps);

@@ -7,7 +7,7 @@ ghost use Rattle.cert_check.specs.Marks.{MarksMore, first_unmarked, has_pass_lin
 ghost use Rattle.cert_check.specs.Ready.{IsSorted};
 ghost use Rattle.cert_check.specs.Walk.{own_recipe};
 
-use crate::list::place_of;
+use crate::list::index_of;
 use box_core::{BoxR, CertLine, Landscape, StepsList, Why};
 
 /// Whether a line says that its recipe is undecided.
@@ -46,13 +46,13 @@ pub(crate) fn mark<L: Landscape>(
     ensures { MarksMore marks.old.items marks.new.items (own_recipe part.now line) listed.now }
 {
     if is_undecided_line(line) {
-        if let Some(i) = place_of(land, listed, &part.lo) {
+        if let Some(i) = index_of(land, listed, &part.lo) {
             marks[i] = true;
         }
     }
 }
 
-/// The first listed recipe without a mark. They stand from line 4 on.
+/// The first listed recipe without a mark. The list begins in line 4.
 pub(crate) fn first_unmarked(marks: &[bool]) -> Option<(u32, Why)>
     requires { length marks.now ≤ 1000000 }
     ensures { result ≡ first_unmarked 4 marks.now }

@@ -8,7 +8,8 @@ use box_core::{BoxR, CertLine, halves};
 use std::alloc::{AllocError, Global};
 use std::marker::Model;
 
-/// Boxes, the one whose line comes next at the end of the list. Contracts see it as the first.
+/// The boxes in the order of their lines, which is what contracts see. They are stored in reverse,
+/// so that the next one is at the end.
 #[derive(Drop)]
 pub(crate) struct Waiting {
     list: Vec<BoxR>,
@@ -24,7 +25,7 @@ impl Model for Waiting {
 }
 
 impl Waiting {
-    /// No box.
+    /// A list of no boxes.
     pub(crate) fn new(alloc: Global) -> Waiting
         ensures { result ≡ [] }
     {
@@ -33,7 +34,7 @@ impl Waiting {
         }
     }
 
-    /// Takes the first box out.
+    /// Removes the first box.
     pub(crate) fn take(&mut self) -> Option<BoxR>
         ensures { MatchOption result ((self.old ≡ []) × (self.new ≡ []))
             (λ b. self.old ≡ b ∷ self.new) }
@@ -49,7 +50,7 @@ impl Waiting {
         Ok(())
     }
 
-    /// Puts the boxes that wait once a box has its line: the halves of one that is split.
+    /// Adds the boxes that a line leaves to be judged: both halves of a box that is split.
     pub(crate) fn put_after(&mut self, part: &BoxR, line: CertLine) -> Result<(), AllocError>
         requires { CanBeCut part.now line }
         ensures { IfOk result (λ _. self.new ≡ after part.now self.old line) }

@@ -14,7 +14,7 @@ use crate::waiting::Waiting;
 use box_core::{CertLine, Claim, Landscape, StepsList, Why};
 use std::alloc::{AllocError, Global};
 
-/// Tries a line for the first of the boxes that wait.
+/// Checks a line against the first of the waiting boxes.
 #[tactic(auto, using(crate::proofs::Parts::corner_within))]
 fn step<L: Landscape>(
     land: &L,
@@ -46,8 +46,8 @@ fn step<L: Landscape>(
     Ok(fault)
 }
 
-/// The first line that does not hold. Where all hold, the recipes of the undecided lines have their
-/// marks.
+/// The first line that does not hold. Where all hold, the recipes of the undecided lines are
+/// marked in the end.
 pub(crate) fn walk<L: Landscape>(
     alloc: Global,
     land: &L,

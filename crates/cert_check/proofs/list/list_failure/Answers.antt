@@ -5,8 +5,8 @@ use Rattle.cert_check.proofs.list.list_failure.Goals as goal
 pub loop-i-preserved : goal.loop-i-preserved
 loop-i-preserved g c =
     let l = g.L.Landscape.land c.args.land.now in
-    let in_place = sym c.is_in_place.ensures ∙ c.if-not-is_in_place.false in
+    let holds_here = sym c.is_in_order.ensures ∙ c.if-not-is_in_order.false in
     record {
-      rest = list_more l c.args.claim.now c.args.listed.now c.loop-i.i (omega (arith, c.loop-i-test.true, c.count_of-i-end.ensures)) in_place ∙ c.loop-i.invariant.rest;
-      grid = below_more _ _ c.loop-i.invariant.grid (in_grid_is l _ c.top-top.ensures.lawful (grid_of l _ _ _ in_place));
+      rest = list_more l c.args.claim.now c.args.listed.now c.loop-i.i (omega (arith, c.loop-i-test.true, c.count_of-i-end.ensures)) holds_here ∙ c.loop-i.invariant.rest;
+      grid = below_more _ _ c.loop-i.invariant.grid (in_grid_is l _ c.top-top.ensures.lawful (grid_of l _ _ _ holds_here));
     }

@@ -8,7 +8,7 @@ pub returns-in-Some : goal.returns-in-Some
 returns-in-Some g c =
     mark_some (g.L.Landscape.land c.args.land.now) c.args.listed.now c.args.marks.now.items c.args.part.now c.args.line c.in-Some.i
     c.requires.sorted c.requires.long (sym c.is_undecided_line.ensures ∙ c.if-is_undecided_line.true)
-    c.in-Some.ensures.place.0 (c.in-Some.ensures.place.1 ∙ ap (λ (b : Span). b.lo) c.part.view_is)
+    c.in-Some.ensures.index.0 (c.in-Some.ensures.index.1 ∙ ap (λ (b : Span). b.lo) c.part.view_is)
 
 pub returns-in_default : goal.returns-in_default
 returns-in_default g c =

@@ -1,7 +1,7 @@
 use Rattle.std.proofs.Common.{◌∙◌, List, ℕ, sym, subst}
 use Rattle.box_specs.specs.Span.{IsWithin}
 use Rattle.cert_check.proofs.Within.{in_top_is}
-use Rattle.cert_check.proofs.list.is_in_place.Goals as goal
+use Rattle.cert_check.proofs.list.is_in_order.Goals as goal
 
 pub is_later-requires-clause-recipe : goal.is_later-requires-clause-recipe
 is_later-requires-clause-recipe g c =
