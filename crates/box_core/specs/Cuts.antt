@@ -4,7 +4,7 @@ use Rattle.box_core.specs.declared.part.Cut.{Cut}
 use Rattle.box_specs.specs.Span.{Span}
 use Rattle.box_specs.specs.Splits.{CutAt, lower_half, upper_half}
 
--- the box is split at this cut, its dye being counted from 1
+-- the box is split at this cut, and the number of the dye counts from 1
 pub record CutsAt (b : Span) (at : CutAt) (cut : Cut) : Type 0 where
   pub dye : cut.dye ≡ at.dye + 1
   pub mid : cut.mid ≡ at.mid

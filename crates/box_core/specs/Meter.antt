@@ -1,7 +1,7 @@
 -- Counts of judgements.
 use Rattle.std.specs.Prelude.{◌≡◌, ◌+◌, ◌-◌, ◌^◌, ℕ, min}
 
--- a count with one more, which stays at its last value
+-- a count with one more, which stays at its greatest value
 abbrev pub one_more : ℕ → ℕ
 one_more count = min (count + 1) (2 ^ 64 - 1)
 

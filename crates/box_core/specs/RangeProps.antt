@@ -1,4 +1,4 @@
--- The ranges of the numbers of a certificate are propositions.
+-- The ranges of the numbers of a certificate are propositions: they have at most one proof.
 use Rattle.std.proofs.Props.{props}
 use Rattle.box_specs.specs.declared.certificate.CertLine.{CertLine}
 use Rattle.box_specs.specs.declared.certificate.CertLine.TheVariants.{Dear, Fail, Limit, Pass, Split, Undecided}

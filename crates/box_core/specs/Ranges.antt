@@ -30,7 +30,7 @@ recipes_of (Match recipe) listed = recipe.items ∷ listed
 recipes_of NoMatch listed = listed
 recipes_of (Floor cost) listed = listed
 
--- all of one length, from 1 to 12
+-- all recipes have the same number of dyes, from 1 to 12
 pub record AreOfLength (count : ℕ) (recipes : List (List ℕ)) : Type 0 where
   pub some : 1 ≤ count
   pub few : count ≤ 12

@@ -6,12 +6,12 @@ ghost use Rattle.box_specs.specs.Splits.{cut_of, first_optional, middle_of, wide
 
 /// Where a box is split: the index of a dye, and the last number of steps of it in the lower half.
 #[derive(Clone, Copy)]
-pub(crate) struct CutPlace {
+pub(crate) struct CutPoint {
     pub dye: usize,
     pub mid: u16,
 }
 
-/// Whether a range of steps has none and some.
+/// Whether a range of steps has 0 and greater numbers.
 fn is_optional(low: u16, high: u16) -> bool
     ensures { result ≡ (low == 0) && nat_lt 0 high }
 {
@@ -39,7 +39,7 @@ struct WideRange {
     width: u16,
 }
 
-/// The widest range with one more dye.
+/// The widest range, once one more dye is looked at.
 fn wider(best: WideRange, dye: usize, width: u16) -> WideRange
     ensures { result
         ≡ (if nat_lt best.width width then record { dye = dye; width = width } else best) }
@@ -67,7 +67,7 @@ fn widest(low: &[u16], high: &[u16]) -> usize
 }
 
 /// Where the box between two corners is split.
-pub(crate) fn cut_of(low: &[u16], high: &[u16]) -> CutPlace
+pub(crate) fn cut_of(low: &[u16], high: &[u16]) -> CutPoint
     requires some { 1 ≤ length low.now }
     requires ordered { IsBox (record { lo = low.now; hi = high.now }) }
     ensures is { record { dye = result.dye; mid = result.mid }
@@ -75,11 +75,11 @@ pub(crate) fn cut_of(low: &[u16], high: &[u16]) -> CutPlace
     ensures inside { result.dye < length low.now }
 {
     match first_optional(low, high) {
-        Some(dye) => CutPlace { dye, mid: 0 },
+        Some(dye) => CutPoint { dye, mid: 0 },
         None => {
             let dye = widest(low, high);
             let mid = (u32::from(low[dye]) + u32::from(high[dye])) / 2;
-            CutPlace {
+            CutPoint {
                 dye,
                 mid: mid as u16,
             }

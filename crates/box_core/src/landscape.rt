@@ -1,4 +1,4 @@
-//! What a search and a check may ask of recipes.
+//! What a search and a check can ask about recipes.
 
 ghost use Rattle.std.specs.Prelude.{◌≡◌, ℕ, length};
 ghost use Rattle.price_grid.specs.Order.{key_view};
@@ -12,18 +12,18 @@ use price_grid::{Key, Steps};
 
 /// A landscape of recipes: for each recipe a key and a verdict, and for each box of recipes the
 /// limits that exclude it and the lights that fail on it. Limits and lights are numbered from 1. No
-/// call takes memory.
+/// call allocates memory.
 ///
 /// A meter counts the judgements that were made with it. No call makes a meter, so a caller has
 /// only the one that it was given.
 pub trait Landscape {
-    /// What counts judgements.
+    /// A counter of judgements.
     type Meter: Drop;
 
-    // what is known of the recipes
+    // the landscape as a definition: all that is known of the recipes
     ghost land: { Self → Land };
 
-    // how many boxes were judged, and how many of them afresh
+    // how many boxes were judged with a meter, and how many of them afresh
     ghost judged_count: { Self → Self.Meter → ℕ };
 
     ghost fresh_count: { Self → Self.Meter → ℕ };
@@ -41,12 +41,12 @@ pub trait Landscape {
         ensures is { result ≡ (land self.now).top }
         ensures lawful { IsLawful (land self.now) };
 
-    /// The cost of a recipe with its steps.
+    /// The key of a recipe: its cost and its steps.
     fn key_of(&self, steps: &Steps) -> Key
         requires { IsWithin steps.now.items (land self.now).top }
         ensures { key_view result ≡ key_at (land self.now) steps.now.items };
 
-    /// Whether a limit excludes a box: none of a number outside 1 to 5.
+    /// Whether a limit excludes a box. A limit with a number outside 1 to 5 excludes none.
     fn excludes(&self, limit: u8, part: &BoxR) -> bool
         requires { IsInside part.now (land self.now).top }
         ensures { result ≡ (land self.now).excluded limit part.now };
@@ -55,11 +55,12 @@ pub trait Landscape {
     fn judged(&self, meter: &Self::Meter) -> u64
         ensures { result ≡ judged_count self.now meter.now };
 
-    /// How many of them were judged afresh, from nothing that was kept of another box.
+    /// How many of them were judged afresh, without anything that was kept of another box.
     fn fresh(&self, meter: &Self::Meter) -> u64
         ensures { result ≡ fresh_count self.now meter.now };
 
-    /// Whether a light fails on a box: none that does not exist. It counts as one judgement.
+    /// Whether a light fails on a box. A light that does not exist fails on none. The call counts
+    /// as one judgement.
     fn fails(&self, light: u8, part: &BoxR, meter: &mut Self::Meter) -> bool
         requires { IsInside part.now (land self.now).top }
         ensures is { result ≡ (land self.now).failing light part.now }

@@ -11,8 +11,8 @@ pub fn halves()
     ensures partition { HalvesPartition }
 {}
 
-/// The answer is the first recipe that is admitted and passes, and there is none where no recipe
-/// is.
+/// The answer is the first recipe that is admitted and passes, and there is none where there is no
+/// such recipe.
 pub fn answer()
     ensures { (l : Land) → AnswerIsFirst l }
 {}

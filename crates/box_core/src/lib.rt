@@ -1,4 +1,4 @@
-//! Boxes of recipes: how they are split, what a search may ask of a landscape of recipes, and
+//! Boxes of recipes: how they are split, what a search can ask about a landscape of recipes, and
 //! certificates.
 #![tactic(auto)]
 

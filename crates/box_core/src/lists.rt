@@ -21,7 +21,7 @@ impl Model for StepsList {
 }
 
 impl StepsList {
-    /// These recipes.
+    /// The list of these recipes.
     pub fn of(list: Vec<Steps>) -> StepsList
         ensures { result ≡ map (λ steps. steps.items) list.items }
     {
@@ -52,7 +52,7 @@ impl Model for LineList {
 }
 
 impl LineList {
-    /// These lines.
+    /// The list of these lines.
     pub fn of(list: Vec<CertLine>) -> LineList
         ensures { result ≡ list.items }
     {

@@ -7,7 +7,7 @@ ghost use Rattle.box_specs.specs.Splits.{cut_of, is_cut, lower_half, upper_half}
 ghost use Rattle.box_specs.specs.Validity.{splits};
 ghost use Rattle.box_core.specs.Cuts.{CutsAt};
 
-use crate::cutting::{CutPlace, cut_of};
+use crate::cutting::{CutPoint, cut_of};
 use price_grid::{Steps, copy_of};
 use std::marker::Model;
 
@@ -54,7 +54,7 @@ pub struct Cut {
     pub right: BoxR,
 }
 
-/// The steps with another number for one dye.
+/// The same steps, but `n` of one dye.
 fn with_steps(steps: &Steps, dye: usize, n: u16) -> Steps
     requires { dye < length steps.now.items }
     ensures { result.items ≡ slice_set steps.now.items dye n }
@@ -65,7 +65,7 @@ fn with_steps(steps: &Steps, dye: usize, n: u16) -> Steps
 }
 
 /// The recipes of the box up to the cut.
-fn lower_half(part: &BoxR, cut: CutPlace) -> BoxR
+fn lower_half(part: &BoxR, cut: CutPoint) -> BoxR
     requires { is_cut part.now (record { dye = cut.dye; mid = cut.mid }) ≡ true }
     ensures { result ≡ lower_half part.now (record { dye = cut.dye; mid = cut.mid }) }
 {
@@ -75,7 +75,7 @@ fn lower_half(part: &BoxR, cut: CutPlace) -> BoxR
     }
 }
 
-/// One step more than a number below another one.
+/// The number after `mid`, which fits its type because `most` is greater.
 fn next_below(mid: u16, most: u16) -> u16
     requires { mid < most }
     ensures { result ≡ mid + 1 }
@@ -84,7 +84,7 @@ fn next_below(mid: u16, most: u16) -> u16
 }
 
 /// The recipes of the box above the cut.
-fn upper_half(part: &BoxR, cut: CutPlace) -> BoxR
+fn upper_half(part: &BoxR, cut: CutPoint) -> BoxR
     requires { is_cut part.now (record { dye = cut.dye; mid = cut.mid }) ≡ true }
     ensures { result ≡ upper_half part.now (record { dye = cut.dye; mid = cut.mid }) }
 {
@@ -95,8 +95,9 @@ fn upper_half(part: &BoxR, cut: CutPlace) -> BoxR
     }
 }
 
-/// Splits a box of more than one recipe: where some dye may be left out, the first such dye into
-/// none and some of it, and else the dye with the widest range, the first on a tie, in the middle.
+/// Splits a box of more than one recipe. If it has recipes with none and recipes with some of a
+/// dye, the first such dye is split into none and some; else the dye with the widest range, the
+/// first on a tie, is split in the middle, rounded down.
 pub fn split(part: &BoxR) -> Cut
     requires { is_single part.now ≡ false }
     ensures { CutsAt part.now (cut_of part.now) result }
@@ -132,7 +133,7 @@ pub fn halves(part: &BoxR, dye: u8, mid: u16) -> Option<(BoxR, BoxR)>
     if !can_split(part, dye, mid) {
         return None;
     }
-    let cut = CutPlace {
+    let cut = CutPoint {
         dye: usize::from(dye) - 1,
         mid,
     };

@@ -1,4 +1,4 @@
--- The answer is what its definition is meant to be: the first recipe that is admitted and passes.
+-- The answer is the first recipe that is admitted and passes.
 use Rattle.std.proofs.Common.{◌≡◌, ◌+◌, ◌-◌, ◌<◌, ◌≤◌, ℕ, zero, suc, List, [], ◌∷◌, ◌++◌, Bool, true, false, map, if◌then◌else◌, refl, sym, ap, subst, ◌∙◌, ◌⊎◌, inl, inr, arith}
 use Rattle.std.specs.Prelude.{Option, Some, None}
 use Rattle.std.proofs.lemmas.Bool.{cases_lt, false≢true}
@@ -31,7 +31,7 @@ in_map n r [] h = absurd h
 in_map n r (x ∷ xs) (inl e) = inl (ap (λ steps. n ∷ steps) e)
 in_map n r (x ∷ xs) (inr h) = inr (in_map n r xs h)
 
--- a number in a range stands before each recipe of the rest
+-- a recipe that begins with a number of a range is in the list
 in_each : (n first count : ℕ) (r : List ℕ) (rest : List (List ℕ)) → first ≤ n → n < first + count → IsIn r rest → IsIn (n ∷ r) (each_before (numbers_from first count) rest)
 in_each n first zero r rest h k i = absurd (omega arith)
 in_each n first (suc count) r rest h k i = elim (cases_lt first n) as (λ _. IsIn (n ∷ r) (map (λ steps. first ∷ steps) rest ++ each_before (numbers_from (first + 1) count) rest)) [
@@ -49,13 +49,13 @@ all_listed (n ∷ r) [] high h k = absurd h
 all_listed (n ∷ r) (l ∷ low) [] h k = absurd k
 all_listed (n ∷ r) (l ∷ low) (m ∷ high) h k = in_each n l (m + 1 - l) r (recipes_between low high) h.0 (omega (arith, h.0, k.0)) (all_listed r low high h.1 k.1)
 
--- an item of two lists together is one of either
+-- an item of two lists put together is an item of one of them
 either : (r : List ℕ) (xs ys : List (List ℕ)) → IsIn r (xs ++ ys) → IsIn r xs ⊎ IsIn r ys
 either r [] ys h = inr h
 either r (x ∷ xs) ys (inl e) = inl (inl e)
 either r (x ∷ xs) ys (inr h) = elim (either r xs ys h) as (λ _. IsIn r (x ∷ xs) ⊎ IsIn r ys) [ inl i ↦ inl (inr i) | inr i ↦ inr i ]
 
--- a recipe that stands behind a number in front of each of a list
+-- a recipe is a number followed by an item of a list
 pub record Begins (n : ℕ) (xs : List (List ℕ)) (r : List ℕ) : Type 0 where
   pub rest : List ℕ
   pub is : (n ∷ rest) ≡ r
@@ -94,7 +94,7 @@ listed_within r (l ∷ low) (m ∷ high) h i =
     let rest = listed_within b.begins.rest low high h.1 b.begins.there in
     subst (λ s. IsUpTo (l ∷ low) s × IsUpTo s (m ∷ high)) b.begins.is ((b.low, rest.0), (omega (arith, b.high, h.0), rest.1))
 
--- what the answer is within a list: no recipe of it that is admitted and passes stands before it, and it is one
+-- the first match of a list: an item that is admitted and passes, and no such item comes before it
 pub record IsFirst (l : Land) (list : List (List ℕ)) (r : List ℕ) : Type 0 where
   pub member : IsIn r list
   pub matches : is_match l r ≡ true
@@ -119,11 +119,11 @@ module _ (l : Land) where
   pub never_before_itself : (a : List ℕ) → is_before l a a ≡ false
   never_before_itself a = ap is_lt (tied_itself keys_are_ordered (K a))
 
-  -- of two that do not stand before one another in turn, the last does not stand before the first
+  -- where r is not before s and t is not before r, t is not before s
   pub not_before_trans : (t r s : List ℕ) → is_before l r s ≡ false → is_before l t r ≡ false → is_before l t s ≡ false
   not_before_trans t r s h k = turned t s ∙ upto keys_are_ordered (K s) (K r) (K t) (sym (turned r s) ∙ h) (sym (turned t r) ∙ k)
 
-  -- what stands after another does not stand before it
+  -- two recipes do not come before each other
   pub not_both_before : (r s : List ℕ) → is_before l r s ≡ true → is_before l s r ≡ false
   not_both_before r s h = go (key_cmp (K r) (K s)) refl where
     go : (o : Ordering) → key_cmp (K r) (K s) ≡ o → is_before l s r ≡ false
@@ -134,7 +134,7 @@ module _ (l : Land) where
   clash : {P : Type 0} (s t : List ℕ) → s ≡ t → is_match l s ≡ false → is_match l t ≡ true → P
   clash s t e f h = absurd (false≢true (sym f ∙ ap (is_match l) e ∙ h))
 
-  -- the first of a recipe that matches and of the first of the rest
+  -- the first match of a list that begins with a match
   join : (s : List ℕ) (rest : List (List ℕ)) (o : Option (List ℕ)) → is_match l s ≡ true → IsFirstOf l rest o → IsFirstOf l (s ∷ rest) (earlier l s o)
   join s rest None m h = record {
     member = inl refl;
@@ -181,7 +181,7 @@ module _ (l : Land) where
     go h true m = join s rest (first_match l rest) m h
     go h false m = skip s rest (first_match l rest) m h
 
-  -- the answer is the first recipe of the grid that is admitted and passes, and there is none where none is
+  -- the answer is the first recipe of the grid that is admitted and passes, and None where there is no such recipe
   pub answer_is : AnswerIsFirst l
   answer_is box = go (answer_of l) (firsts (all_recipes l)) where
     go : (o : Option (List ℕ)) → IsFirstOf l (all_recipes l) o → IsAnswer l o

@@ -1,4 +1,4 @@
--- How many boxes a tree has.
+-- The number of boxes of a tree.
 use Rattle.std.proofs.Common.{◌≡◌, ◌+◌, ◌-◌, ◌*◌, ◌<◌, ◌≤◌, ◌||◌, ℕ, zero, suc, List, [], ◌∷◌, Bool, true, false, map, length, get_or, length-append, refl, sym, ap, ◌∙◌, subst, arith}
 use Rattle.std.specs.List.{slice_set}
 use Rattle.price_grid.specs.Grid.{IsUpTo}
@@ -9,7 +9,7 @@ use Rattle.box_specs.specs.Splits.{cut_of, lower_half, upper_half}
 use Rattle.box_specs.specs.Tree.{TreeIsSmall, count, grow, spread, tree_of}
 use Rattle.box_specs.proofs.Cuts.{cut_fits, lower_is_box, same_count, upper_is_box}
 
--- how many recipes there are between two corners
+-- the number of recipes between two corners
 volume : (low high : List ℕ) → ℕ
 volume [] high = 1
 volume (l ∷ low) [] = 0
@@ -27,9 +27,9 @@ length_each : (ns : List ℕ) (rest : List (List ℕ)) → length (each_before n
 length_each [] rest = omega arith
 length_each (n ∷ ns) rest =
     let here = length-append (map (λ steps. n ∷ steps) rest) (each_before ns rest) in
-    let front = length_map (λ steps. n ∷ steps) rest in
+    let mapped_part = length_map (λ steps. n ∷ steps) rest in
     let behind = length_each ns rest in
-    grind (arith, here, front, behind)
+    grind (arith, here, mapped_part, behind)
 
 length_recipes : (low high : List ℕ) → length (recipes_between low high) ≡ volume low high
 unfolding volume

@@ -1,4 +1,4 @@
--- Cuts of boxes: where a box is split it can be, its halves are boxes, and each recipe of it lies in one of them.
+-- Cuts of boxes: a box can be split where the rule says, its halves are boxes, and each recipe of it lies in one of them.
 use Rattle.std.proofs.Common.{◌≡◌, ◌+◌, ◌-◌, ◌/◌, ◌<◌, ◌≤◌, ◌==◌, ◌&&◌, ℕ, zero, suc, List, [], ◌∷◌, Bool, true, false, nat_le, nat_lt, if◌then◌else◌, length, get_or, refl, sym, ap, ◌∙◌, subst, ◌⊎◌, inl, inr, arith}
 use Rattle.std.specs.Prelude.{Option, Some, None, unwrap_or}
 use Rattle.std.specs.List.{AllZip, slice_set}
@@ -10,11 +10,11 @@ use Rattle.price_grid.specs.Grid.{IsUpTo}
 use Rattle.box_specs.specs.Span.{IsBox, IsWithin, Span, is_single}
 use Rattle.box_specs.specs.Splits.{CutAt, HalvesPartition, Partitions, RuleFits, cut_at, cut_of, first_optional, is_cut, lower_half, middle_of, upper_half, widest}
 
--- the corners have one length
+-- both corners have the same length
 pub same_count : (low high : List ℕ) → IsUpTo low high → length high ≡ length low
 same_count low high h = AllZip-long (λ (l n : ℕ). l ≤ n) low high h
 
--- another number that is not below the one of the lower corner
+-- the upper corner with another number, which is not below that of the lower corner
 pub set_high : (low high : List ℕ) (i n : ℕ) → IsUpTo low high → get_or low i 0 ≤ n → IsUpTo low (slice_set high i n)
 set_high [] [] i n h k = tt
 set_high [] (m ∷ high) i n h k = absurd h
@@ -22,7 +22,7 @@ set_high (l ∷ low) [] i n h k = absurd h
 set_high (l ∷ low) (m ∷ high) zero n h k = (k, h.1)
 set_high (l ∷ low) (m ∷ high) (suc i) n h k = (h.0, set_high low high i n h.1 k)
 
--- another number that is not above the one of the upper corner
+-- the lower corner with another number, which is not above that of the upper corner
 pub set_low : (low high : List ℕ) (i n : ℕ) → IsUpTo low high → n ≤ get_or high i 0 → IsUpTo (slice_set low i n) high
 set_low [] [] i n h k = tt
 set_low [] (m ∷ high) i n h k = absurd h
@@ -30,7 +30,7 @@ set_low (l ∷ low) [] i n h k = absurd h
 set_low (l ∷ low) (m ∷ high) zero n h k = (k, h.1)
 set_low (l ∷ low) (m ∷ high) (suc i) n h k = (h.0, set_low low high i n h.1 k)
 
--- and back, where the number was lowered, or raised
+-- the converse: the number of the upper corner was lowered, or that of the lower one raised
 pub unset_high : (low high : List ℕ) (i n : ℕ) → IsUpTo low (slice_set high i n) → n ≤ get_or high i 0 → IsUpTo low high
 unset_high [] [] i n h k = tt
 unset_high [] (m ∷ high) zero n h k = absurd h
@@ -47,7 +47,7 @@ unset_low (l ∷ low) [] (suc i) n h k = absurd h
 unset_low (l ∷ low) (m ∷ high) zero n h k = (omega (arith, h.0), h.1)
 unset_low (l ∷ low) (m ∷ high) (suc i) n h k = (h.0, unset_low low high i n h.1 k)
 
--- the number itself bounds
+-- the new number is a bound
 pub below_set : (low high : List ℕ) (i n : ℕ) → IsUpTo low (slice_set high i n) → i < length high → get_or low i 0 ≤ n
 below_set [] [] i n h k = absurd (omega arith)
 below_set [] (m ∷ high) zero n h k = absurd h
@@ -66,7 +66,7 @@ above_set (l ∷ low) (m ∷ high) (suc i) n h k = above_set low high i n h.1 (o
 not_below : (a b : ℕ) → nat_lt a b ≡ false → b ≤ a
 not_below a b h = grind (arith, nat_tests)
 
--- what a test of a cut says
+-- what the test of a cut means
 pub record Cuts (b : Span) (cut : CutAt) : Type 0 where
   pub there : cut.dye < length b.lo
   pub low : get_or b.lo cut.dye 0 ≤ cut.mid
@@ -105,13 +105,13 @@ module _ (b : Span) (cut : CutAt) (box : IsBox b) (c : Cuts b cut) where
   pub in_upper : (steps : List ℕ) → IsWithin steps b → cut.mid < get_or steps cut.dye 0 → IsWithin steps (upper_half b cut)
   in_upper steps h k = (set_low b.lo steps cut.dye (cut.mid + 1) h.0 (omega (arith, k)), h.1)
 
-  -- and not in both
+  -- no recipe lies in both halves
   pub not_both : (steps : List ℕ) → IsWithin steps (lower_half b cut) → IsWithin steps (upper_half b cut) → ⊥
   not_both steps h k =
       let high : cut.dye < length b.hi = omega (arith, c.there, same_count b.lo b.hi box) in
       omega (arith, below_set steps b.hi cut.dye cut.mid h.1 high, above_set b.lo steps cut.dye (cut.mid + 1) k.0 c.there)
 
--- the dye that a box may leave out, at an offset behind the first one looked at
+-- a dye of which a box has recipes with none and recipes with some, at an offset from the first dye of the lists
 pub record IsOptional (i dye : ℕ) (low high : List ℕ) : Type 0 where
   pub offset : ℕ
   pub dye_is : dye ≡ i + offset
@@ -147,7 +147,7 @@ optional_found i dye (l ∷ low) (m ∷ high) h = go (optional_found (i + 1) dye
         high_is = rest.high_is;
       }
 
--- the widest range is the one so far, and no range is wider; or it is that of a dye, and wider than the one so far
+-- the widest range is that so far, and no range is wider; or it is the range of another dye, and wider than that so far
 pub data IsWidest (best width i : ℕ) (low high : List ℕ) (result : ℕ) : Type 0 where
   same : result ≡ best → AllZip (λ l h. h - l ≤ width) low high → IsWidest best width i low high result
   wider : (offset : ℕ) → result ≡ i + offset → offset < length low → width < get_or high offset 0 - get_or low offset 0 → IsWidest best width i low high result
@@ -171,7 +171,7 @@ widest_found best width i (l ∷ low) (m ∷ high) h =
       go taken kept true e = take (below width (m - l) e) taken
       go taken kept false e = keep (not_below width (m - l) e) kept
 
--- corners with no range between them are one
+-- corners whose ranges all have the width 0 are the same
 pub no_width : (low high : List ℕ) → IsUpTo low high → AllZip (λ l h. h - l ≤ 0) low high → low ≡ high
 no_width [] [] h a = refl
 no_width [] (m ∷ high) h a = absurd h
@@ -205,7 +205,7 @@ cut_fits b box open_ = go (first_optional 0 b.lo b.hi) refl where
       let at : dye ≡ found.offset = found.dye_is ∙ omega arith in
       subst (λ d. Cuts b (record { dye = d; mid = 0 })) (sym at) (record { there = found.there; low = omega (arith, found.low_is); high = found.high_is })
 
--- and back, as a test
+-- the converse: the test of a cut holds
 pub is_cut_from : (b : Span) (cut : CutAt) → Cuts b cut → is_cut b cut ≡ true
 is_cut_from b cut c = grind (arith, nat_tests, c.there, c.low, c.high)
 

@@ -3,12 +3,12 @@ use Rattle.std.specs.Prelude.{◌≡◌, ◌+◌, ◌-◌, ◌++◌, ◌&&◌, �
 use Rattle.box_specs.specs.Span.{IsBox, IsWithin}
 use Rattle.box_specs.specs.Landscape.{Grade, Land, fails, is_admitted, is_before, passes, unsure}
 
--- so many numbers from one on
+-- consecutive numbers from n on, as many as the last argument says
 abbrev pub numbers_from : ℕ → ℕ → List ℕ
 numbers_from n zero = []
 numbers_from n (suc more) = n ∷ numbers_from (n + 1) more
 
--- each number before each list
+-- each list with each number put before it
 abbrev pub each_before : List ℕ → List (List ℕ) → List (List ℕ)
 each_before [] rest = []
 each_before (n ∷ ns) rest = map (λ steps. n ∷ steps) rest ++ each_before ns rest
@@ -46,7 +46,7 @@ module _ (l : Land) where
   abbrev pub answer_of : Option (List ℕ)
   answer_of = first_match all_recipes
 
-  -- a recipe of the grid that is admitted and passes, and before which no such one stands
+  -- a recipe of the grid that is admitted and passes, and no other such recipe comes before it
   pub record IsFirstMatch (steps : List ℕ) : Type 0 where
     pub grid : IsWithin steps l.top
     pub matches : is_match steps ≡ true
@@ -56,6 +56,6 @@ module _ (l : Land) where
   IsAnswer None = (steps : List ℕ) → IsWithin steps l.top → is_match steps ≡ false
   IsAnswer (Some steps) = IsFirstMatch steps
 
-  -- the answer is the first recipe of the grid that is admitted and passes; there is none where none is
+  -- the answer is the first recipe of the grid that is admitted and passes, and None where there is no such recipe
   abbrev pub AnswerIsFirst : Type 0
   AnswerIsFirst = IsBox l.top → IsAnswer answer_of

@@ -26,13 +26,13 @@ module _ (l : Land) where
   abbrev pub line_of : Span → CertLine
   line_of b = line_by (judgement l b) (cut_of b)
 
-  -- the lines of a tree: a box that was not judged is too dear, and nothing stands below it
+  -- the lines of a tree: a box that was not judged is too dear, and the boxes below it have no lines
   abbrev pub lines : (ℕ → Span → Bool) → ℕ → Tree → List CertLine
   lines judged depth (leaf b) = (if judged depth b then line_of b else line.Dear) ∷ []
   lines judged depth (fork b lower upper) =
       if judged depth b then line_of b ∷ lines judged (depth + 1) lower ++ lines judged (depth + 1) upper else line.Dear ∷ []
 
-  -- the first boxes, so many, are judged
+  -- a box is judged if fewer than the given number of boxes come before it
   abbrev pub is_judged : ℕ → ℕ → Span → Bool
   is_judged boxes depth b = nat_lt (rank l (spot_of l depth b)) boxes
 
@@ -45,7 +45,7 @@ module _ (l : Land) where
   IsPart (fork b lower upper) depth d u = ((depth ≡ d) × (fork b lower upper ≡ u)) ⊎ (IsPart lower (depth + 1) d u ⊎ IsPart upper (depth + 1) d u)
 
   -- the claim: the answer, or that there is none, where the budget suffices; and else the cost of the first box that was not
-  -- judged, the one that so many stand before
+  -- judged, which has exactly `budget` boxes before it
   abbrev pub IsClaim : ℕ → Claim → Type 0
   IsClaim budget (Match recipe) = (need l ≤ budget) × (answer_of l ≡ Some recipe.items)
   IsClaim budget NoMatch = (need l ≤ budget) × (answer_of l ≡ None)

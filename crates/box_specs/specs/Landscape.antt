@@ -1,4 +1,4 @@
--- A landscape of recipes: what a search and a check may know of them.
+-- A landscape of recipes: all that a search and a check know of them.
 use Rattle.std.specs.Prelude.{◌≡◌, ◌⊎◌, ◌↔◌, ◌+◌, ◌<◌, ◌≤◌, ◌^◌, ◌||◌, ℕ, zero, suc, Bool, true, false, is_some, is_none, Option, Some, None, List, All, if◌then◌else◌}
 use Rattle.std.specs.Ordering.{is_lt}
 use Rattle.price_grid.specs.Grid.{IsUpTo}
@@ -28,11 +28,11 @@ module _ (l : Land) where
   abbrev pub key_of : List ℕ → KeyView
   key_of steps = record { cost = l.cost steps; steps = steps }
 
-  -- the key of the first stands before that of the second
+  -- the key of the first comes before that of the second
   abbrev pub is_before : List ℕ → List ℕ → Bool
   is_before a b = is_lt (key_cmp (key_of a) (key_of b))
 
-  -- the first number from this one on, of so many, that passes a test
+  -- the first number from `number` on that passes a test; the last argument says how many are tried
   abbrev pub first_from : (ℕ → Bool) → ℕ → ℕ → Option ℕ
   first_from test number zero = None
   first_from test number (suc more) = if test number then Some number else first_from test (number + 1) more
@@ -48,15 +48,15 @@ module _ (l : Land) where
   abbrev pub is_shut : Span → Bool
   is_shut b = is_some (limit_of b) || is_some (light_of b)
 
-  -- such a box, and one of a single recipe, is not split
+  -- a box that is shut, or has a single recipe, is not split
   abbrev pub is_final : Span → Bool
   is_final b = is_shut b || is_single b
 
-  -- no limit excludes the box of the recipe alone
+  -- no limit excludes the box that has only this recipe
   abbrev pub is_admitted : List ℕ → Bool
   is_admitted steps = is_none (limit_of (single steps))
 
-  -- what judging a box answers: limits before lights, the lowest number of each, and then the verdict on a single recipe
+  -- the result of judging a box: limits before lights, the lowest number of each, and then the verdict on a single recipe
   abbrev pub judged_by : (limit light : Option ℕ) → Bool → Grade → Judged
   judged_by (Some k) light alone grade = Limit k
   judged_by None (Some j) alone grade = Fail j
@@ -68,8 +68,8 @@ module _ (l : Land) where
   abbrev pub judgement : Span → Judged
   judgement b = judged_by (limit_of b) (light_of b) (is_single b) (l.grade b.lo)
 
-  -- What every landscape keeps. A box that is shut holds no admitted recipe that passes or is undecided; a recipe with more
-  -- steps costs no less; and on the box of one admitted recipe some light fails exactly where the verdict is to fail
+  -- The laws of a landscape. A box that is shut has no admitted recipe that passes or is undecided; a recipe with more steps
+  -- costs no less; and on the box of one admitted recipe some light fails exactly where the verdict is a fail
   pub record IsLawful : Type 0 where
     pub top : IsBox l.top
     pub dyes : HasDyes l.top

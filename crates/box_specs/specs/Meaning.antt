@@ -7,14 +7,14 @@ use Rattle.box_specs.specs.Span.{IsWithin}
 use Rattle.box_specs.specs.Validity.{is_listed}
 
 module _ (l : Land) (listed : List (List ℕ)) where
-  -- every admitted recipe of which a fact holds fails or is listed
+  -- every admitted recipe with the property P fails or is listed
   abbrev pub SettlesAll : (List ℕ → Type 0) → Type 0
   SettlesAll P =
       (steps : List ℕ) → IsWithin steps l.top → is_admitted l steps ≡ true → P steps
       → (l.grade steps ≡ fails) ⊎ (is_listed listed steps ≡ true)
 
   -- a match: every admitted recipe before it fails or is listed, and it is admitted and passes; no match: every admitted recipe
-  -- fails or is listed; a floor: every admitted recipe that costs less does
+  -- fails or is listed; a floor: every admitted recipe that costs less than it fails or is listed
   abbrev pub MeansClaim : Claim → Type 0
   MeansClaim (Match recipe) =
       SettlesAll (λ steps. is_before l steps recipe.items ≡ true)

@@ -8,7 +8,7 @@ pub record Span : Type 0 where
   pub lo : List ℕ
   pub hi : List ℕ
 
--- the corners stand in order
+-- the corners have equally many dyes, and the lower one has at most the steps of the upper one
 abbrev pub IsBox : Span → Type 0
 IsBox b = IsUpTo b.lo b.hi
 

@@ -8,20 +8,20 @@ pub record CutAt : Type 0 where
   pub dye : ℕ
   pub mid : ℕ
 
--- the first dye of which a box has recipes with none and recipes with some: its index, the first one having the index i
+-- the index of the first dye of which a box has recipes with none and recipes with some; the lists begin at the index i
 abbrev pub first_optional : ℕ → (low high : List ℕ) → Option ℕ
 first_optional i [] high = None
 first_optional i (l ∷ low) [] = None
 first_optional i (l ∷ low) (h ∷ high) = if (l == 0) && nat_lt 0 h then Some i else first_optional (i + 1) low high
 
--- the first dye with the widest range: `best` is the one so far, with a range of this width, and the next one has the index i
+-- the index of the first dye with the widest range: `best` is that so far, with this width, and the lists begin at the index i
 abbrev pub widest : (best width i : ℕ) → (low high : List ℕ) → ℕ
 widest best width i [] high = best
 widest best width i (l ∷ low) [] = best
 widest best width i (l ∷ low) (h ∷ high) =
     if nat_lt width (h - l) then widest i (h - l) (i + 1) low high else widest best width (i + 1) low high
 
--- in the middle of the range of a dye, rounded down
+-- the middle of the range of a dye, rounded down
 abbrev pub middle_of : Span → ℕ → ℕ
 middle_of b dye = (slice_index b.lo dye + slice_index b.hi dye) / 2
 
@@ -29,8 +29,8 @@ abbrev pub cut_at : Span → Option ℕ → ℕ → CutAt
 cut_at b (Some dye) wide = record { dye = dye; mid = 0 }
 cut_at b None wide = record { dye = wide; mid = middle_of b wide }
 
--- Where some dye may be left out, the first such dye is split into none and some of it. Else the dye with the widest range,
--- the first on a tie, is split in the middle
+-- Where a box has recipes with none and recipes with some of a dye, the first such dye is split into none and some. Else the
+-- dye with the widest range, the first on a tie, is split in the middle
 abbrev pub cut_of : Span → CutAt
 cut_of b = cut_at b (first_optional 0 b.lo b.hi) (widest 0 0 0 b.lo b.hi)
 
@@ -41,7 +41,7 @@ lower_half b cut = record { lo = b.lo; hi = slice_set b.hi cut.dye cut.mid }
 abbrev pub upper_half : Span → CutAt → Span
 upper_half b cut = record { lo = slice_set b.lo cut.dye (cut.mid + 1); hi = b.hi }
 
--- a box can be split there: the dye exists, and both halves have recipes
+-- a box can be split at the cut: the dye exists, and both halves have recipes
 abbrev pub is_cut : Span → CutAt → Bool
 is_cut b cut = nat_lt cut.dye (length b.lo) && nat_le (slice_index b.lo cut.dye) cut.mid && nat_lt cut.mid (slice_index b.hi cut.dye)
 
@@ -55,6 +55,6 @@ abbrev pub HalvesPartition : Type 0
 HalvesPartition =
     (b : Span) (cut : CutAt) (steps : List ℕ) → IsBox b → is_cut b cut ≡ true → Partitions b (lower_half b cut) (upper_half b cut) steps
 
--- the rule of splitting fits each box of more than one recipe
+-- each box of more than one recipe can be split at the cut that the rule chooses
 abbrev pub RuleFits : Type 0
 RuleFits = (b : Span) → IsBox b → is_single b ≡ false → is_cut b (cut_of b) ≡ true

@@ -1,4 +1,4 @@
--- The tree of boxes: the box of all recipes is split until every part is shut or single.
+-- The tree of boxes: the box of all recipes is split until every part is shut or has a single recipe.
 use Rattle.std.specs.Prelude.{◌≤◌, ◌*◌, length, ◌+◌, ◌-◌, ℕ, zero, suc, Bool, true, not, Option, Some, None, List, [], ◌∷◌, if◌then◌else◌}
 use Rattle.std.specs.Ordering.{is_lt, nat_cmp, ordering_then}
 use Rattle.std.specs.declared.cmp.Ordering.{Ordering}
@@ -17,13 +17,13 @@ abbrev pub root : Tree → Span
 root (leaf b) = b
 root (fork b lower upper) = b
 
--- a bound on how deep the tree of a box is: the widths of its ranges together
+-- a bound on the depth of the tree of a box: the sum of the widths of its ranges
 abbrev pub spread : (low high : List ℕ) → ℕ
 spread [] high = 0
 spread (l ∷ low) [] = 0
 spread (l ∷ low) (h ∷ high) = (h - l) + spread low high
 
--- the place of a box in the order in which boxes are judged: by the key of the lower corner, and then by depth
+-- the position of a box in the order in which boxes are judged: by the key of the lower corner, and then by depth
 pub record Spot : Type 0 where
   pub key : KeyView
   pub depth : ℕ
@@ -31,13 +31,13 @@ pub record Spot : Type 0 where
 abbrev pub spot_cmp : Spot → Spot → Ordering
 spot_cmp a b = ordering_then (key_cmp a.key b.key) (nat_cmp a.depth b.depth)
 
--- how many boxes pass a test on their depth and themselves, the root having this depth
+-- the number of boxes that pass a test on their depth and on the box itself; the root has the given depth
 abbrev pub count : (ℕ → Span → Bool) → ℕ → Tree → ℕ
 count test depth (leaf b) = if test depth b then 1 else 0
 count test depth (fork b lower upper) = (if test depth b then 1 else 0) + (count test (depth + 1) lower + count test (depth + 1) upper)
 
 module _ (l : Land) where
-  -- the tree below a box, as deep as a bound allows
+  -- the tree of a box, at most as deep as the bound
   abbrev pub grow : ℕ → Span → Tree
   grow zero b = leaf b
   grow (suc deeper) b =
@@ -51,19 +51,19 @@ module _ (l : Land) where
   abbrev pub spot_of : ℕ → Span → Spot
   spot_of depth b = record { key = key_of l b.lo; depth = depth }
 
-  -- how many boxes of the tree stand before a place
+  -- the number of boxes of the tree that come before a position
   abbrev pub rank : Spot → ℕ
   rank spot = count (λ depth b. is_lt (spot_cmp (spot_of depth b) spot)) 0 tree_of
 
-  -- a box is needed where its key is not after that of the answer; where there is no answer all are
+  -- a box is needed where its key does not come after that of the answer; without an answer all boxes are needed
   abbrev pub is_needed : Option (List ℕ) → Span → Bool
   is_needed None b = true
   is_needed (Some answer) b = not (is_before l answer b.lo)
 
-  -- how many boxes are needed
+  -- the number of boxes that are needed
   abbrev pub need : ℕ
   need = count (λ depth b. is_needed (answer_of l) b) 0 tree_of
 
-  -- a tree has at most twice as many boxes as there are recipes, less one
+  -- a tree has at most 2 G - 1 boxes, where there are G recipes
   abbrev pub TreeIsSmall : Type 0
   TreeIsSmall = IsBox l.top → count (λ depth b. true) 0 tree_of + 1 ≤ 2 * length (all_recipes l)

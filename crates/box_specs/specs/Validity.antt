@@ -12,7 +12,7 @@ use Rattle.box_specs.specs.Landscape.{Grade, Land, fails, is_admitted, is_before
 use Rattle.box_specs.specs.Span.{Span, is_single, same_steps}
 use Rattle.box_specs.specs.Splits.{is_cut, lower_half, upper_half}
 
--- the lines are so many whole trees, one after the other: a split begins two trees more, and every other line ends one
+-- the lines are the given number of whole trees, one after the other: a split replaces a tree by two, and any other line ends one
 abbrev pub are_trees : ℕ → List CertLine → Bool
 are_trees zero [] = true
 are_trees (suc trees) [] = false
@@ -36,7 +36,7 @@ is_within (n ∷ steps) (l ∷ low) (h ∷ high) = nat_le l n && nat_le n h && i
 abbrev pub is_listed : List (List ℕ) → List ℕ → Bool
 is_listed listed steps = list_any (same_steps steps) listed
 
--- a recipe is that of a match
+-- a recipe is that of a match that is claimed
 abbrev pub is_claimed : Claim → List ℕ → Bool
 is_claimed (Match recipe) steps = same_steps recipe.items steps
 is_claimed NoMatch steps = false
@@ -47,16 +47,16 @@ is_unsure passes = false
 is_unsure fails = false
 is_unsure unsure = true
 
--- nothing where a test holds, and else why it had to
+-- this failure where a test does not hold, and else the next one, if there is one
 abbrev pub unless : Bool → Why → Option Why → Option Why
 unless holds why next = if holds then next else Some why
 
--- a split line names a dye by its number from 1
+-- a box can be split as a line says, which names a dye by its number from 1
 abbrev pub splits : Span → ℕ → ℕ → Bool
 splits b zero mid = false
 splits b (suc dye) mid = is_cut b (record { dye = dye; mid = mid })
 
--- the boxes that wait for their lines after the first of them, once that has its line
+-- the boxes that wait for their lines, once the first of them has its line: the halves of one that is split, and the others
 abbrev pub after : Span → List Span → CertLine → List Span
 after b waiting (Split zero mid) = waiting
 after b waiting (Split (suc dye) mid) = lower_half b (record { dye = dye; mid = mid }) ∷ upper_half b (record { dye = dye; mid = mid }) ∷ waiting
@@ -128,44 +128,44 @@ module _ (l : Land) where
   abbrev pub is_in_grid : List ℕ → Bool
   is_in_grid steps = is_within steps l.top.lo l.top.hi
 
-  -- the recipe of a match is one of the grid; it stands in line 2
+  -- a match, which is in line 2, fails where its recipe is not of the grid
   abbrev pub claim_failure : Claim → Option (ℕ × Why)
   claim_failure (Match recipe) = if is_in_grid recipe.items then None else Some (2, WrongList)
   claim_failure NoMatch = None
   claim_failure (Floor cost) = None
 
-  -- under a match, a recipe stands before that of the match
+  -- under a match, a recipe comes before that of the match
   abbrev pub is_early : Claim → List ℕ → Bool
   is_early (Match recipe) steps = is_before l steps recipe.items
   is_early NoMatch steps = true
   is_early (Floor cost) steps = true
 
-  -- a recipe stands after the one before it, if there is one
+  -- a recipe comes after the previous one of the list, if there is one
   abbrev pub is_later : Option (List ℕ) → List ℕ → Bool
   is_later None steps = true
   is_later (Some previous) steps = is_before l previous steps
 
-  -- the listed recipes, from the line of this number on, are of the grid, rise, and stand before the recipe of a match
+  -- the first listed recipe that is not of the grid, or not after the previous one, or not before that of a match
   abbrev pub list_failure : Claim → ℕ → Option (List ℕ) → List (List ℕ) → Option (ℕ × Why)
   list_failure claim number previous [] = None
   list_failure claim number previous (steps ∷ rest) =
       if is_in_grid steps && is_later previous steps && is_early claim steps then list_failure claim (number + 1) (Some steps) rest
       else Some (number, WrongList)
 
-  -- each listed recipe, from the line of this number on, is that of an undecided line
+  -- the first listed recipe that is not that of an undecided line
   abbrev pub unmarked_failure : List (List ℕ) → ℕ → List (List ℕ) → Option (ℕ × Why)
   unmarked_failure marked number [] = None
   unmarked_failure marked number (steps ∷ rest) =
       if is_listed marked steps then unmarked_failure marked (number + 1) rest else Some (number, WrongList)
 
-  -- the recipe of a match has its line
+  -- a match fails where no pass line is that of its recipe
   abbrev pub unclaimed_failure : Claim → List (List ℕ) → Option (ℕ × Why)
   unclaimed_failure (Match recipe) passed = if is_listed passed recipe.items then None else Some (2, WrongList)
   unclaimed_failure NoMatch passed = None
   unclaimed_failure (Floor cost) passed = None
 
-  -- Where a certificate first fails: the claim, the list, the lines of the tree, the list against those lines, and the claim
-  -- against them. The listed recipes stand from line 4 on, and the tree after them
+  -- The first failure of a certificate: of the claim, of the list, of the lines of the tree, of the list against those lines, and
+  -- of the claim against them. The list begins in line 4, and the tree follows it
   abbrev pub first_failure : Claim → List (List ℕ) → List CertLine → Option (ℕ × Why)
   first_failure claim listed lines =
       or_next (claim_failure claim)

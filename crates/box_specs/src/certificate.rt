@@ -33,15 +33,15 @@ pub enum Claim {
 /// A rule of the certificate's grammar.
 #[derive(Clone, Copy, Debug, PartialEq, Eq)]
 pub enum CertRule {
-    /// The first line is another one.
+    /// The first line is not that of a certificate.
     BadHeader,
-    /// The second line is no claim, or the third does not say how many recipes are listed.
+    /// The second line is no claim, or the third does not state the number of listed recipes.
     BadClaim,
-    /// A line has no spelling of its kind.
+    /// A line that has to spell a listed recipe, or a line of the tree, does not.
     BadLine,
-    /// No whole line stands where one is due.
+    /// The text ends before a line that is required, or within it.
     Missing,
-    /// Something stands after the whole tree.
+    /// There is text after the whole tree.
     Left,
 }
 
@@ -73,7 +73,7 @@ pub enum Why {
     WrongList,
 }
 
-/// What comes of checking a certificate.
+/// The result of checking a certificate.
 #[derive(Clone, Copy, Debug, PartialEq, Eq)]
 pub enum Checked {
     /// It is valid.

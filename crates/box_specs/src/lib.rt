@@ -1,5 +1,5 @@
-//! Boxes of recipes, what a search finds among them, and what a certificate must show: definitions
-//! over any landscape of recipes, with no function. They know nothing of colour.
+//! Boxes of recipes, what a search finds among them, and when a certificate is valid: definitions
+//! over any landscape of recipes, without functions. None of them depends on colours.
 #![tactic(auto)]
 
 mod certificate;

@@ -88,7 +88,7 @@ grid_of l true b c h = refl
 grid_of l false b c h = h
 
 -- the recipes of a list without a failure are of the grid, and each comes after the previous one, and so after all before it
-pub record Shown (l : Land) (claim : Claim) (previous : Option (List ℕ)) (listed : List (List ℕ)) : Type 0 where
+pub record ListIsOrdered (l : Land) (claim : Claim) (previous : Option (List ℕ)) (listed : List (List ℕ)) : Type 0 where
   pub grid : (k : ℕ) → k < length listed → IsWithin (get_or listed k []) l.top
   pub early : (k : ℕ) → k < length listed → is_early l claim (get_or listed k []) ≡ true
   pub later : (k : ℕ) → k < length listed → is_later l previous (get_or listed k []) ≡ true
@@ -98,35 +98,35 @@ later_trans : (l : Land) (previous : Option (List ℕ)) (a b : List ℕ) → is_
 later_trans l None a b h k = refl
 later_trans l (Some p) a b h k = before_trans l p a b h k
 
-pub shown : (l : Land) (claim : Claim) (n : ℕ) (previous : Option (List ℕ)) (listed : List (List ℕ)) → IsLawful l
-    → list_failure l claim n previous listed ≡ None → Shown l claim previous listed
-shown l claim n previous [] lawful h = record {
+pub list_is_ordered : (l : Land) (claim : Claim) (n : ℕ) (previous : Option (List ℕ)) (listed : List (List ℕ)) → IsLawful l
+    → list_failure l claim n previous listed ≡ None → ListIsOrdered l claim previous listed
+list_is_ordered l claim n previous [] lawful h = record {
   grid = λ k lt. absurd (omega arith);
   early = λ k lt. absurd (omega arith);
   later = λ k lt. absurd (omega arith);
   rising = λ i k lt le. absurd (omega arith);
 }
-shown l claim n previous (s ∷ listed) lawful h = go (λ k. shown l claim (n + 1) (Some s) listed lawful k) (is_in_grid l s && is_later l previous s && is_early l claim s) refl h where
-  grids : Shown l claim (Some s) listed → IsWithin s l.top → (k : ℕ) → k < length (s ∷ listed) → IsWithin (get_or (s ∷ listed) k []) l.top
+list_is_ordered l claim n previous (s ∷ listed) lawful h = go (λ k. list_is_ordered l claim (n + 1) (Some s) listed lawful k) (is_in_grid l s && is_later l previous s && is_early l claim s) refl h where
+  grids : ListIsOrdered l claim (Some s) listed → IsWithin s l.top → (k : ℕ) → k < length (s ∷ listed) → IsWithin (get_or (s ∷ listed) k []) l.top
   grids r w zero lt = w
   grids r w (suc k) lt = r.grid k (omega arith)
 
-  earlies : Shown l claim (Some s) listed → is_early l claim s ≡ true → (k : ℕ) → k < length (s ∷ listed) → is_early l claim (get_or (s ∷ listed) k []) ≡ true
+  earlies : ListIsOrdered l claim (Some s) listed → is_early l claim s ≡ true → (k : ℕ) → k < length (s ∷ listed) → is_early l claim (get_or (s ∷ listed) k []) ≡ true
   earlies r w zero lt = w
   earlies r w (suc k) lt = r.early k (omega arith)
 
-  laters : Shown l claim (Some s) listed → is_later l previous s ≡ true → (k : ℕ) → k < length (s ∷ listed) → is_later l previous (get_or (s ∷ listed) k []) ≡ true
+  laters : ListIsOrdered l claim (Some s) listed → is_later l previous s ≡ true → (k : ℕ) → k < length (s ∷ listed) → is_later l previous (get_or (s ∷ listed) k []) ≡ true
   laters r w zero lt = w
   laters r w (suc k) lt = later_trans l previous s (get_or listed k []) w (r.later k (omega arith))
 
-  risings : Shown l claim (Some s) listed → (i k : ℕ) → i < k → k < length (s ∷ listed) → is_before l (get_or (s ∷ listed) i []) (get_or (s ∷ listed) k []) ≡ true
+  risings : ListIsOrdered l claim (Some s) listed → (i k : ℕ) → i < k → k < length (s ∷ listed) → is_before l (get_or (s ∷ listed) i []) (get_or (s ∷ listed) k []) ≡ true
   risings r i zero lt le = absurd (omega arith)
   risings r zero (suc k) lt le = r.later k (omega arith)
   risings r (suc i) (suc k) lt le = r.rising i k (omega arith) (omega arith)
 
-  go : (list_failure l claim (n + 1) (Some s) listed ≡ None → Shown l claim (Some s) listed) → (t : Bool)
+  go : (list_failure l claim (n + 1) (Some s) listed ≡ None → ListIsOrdered l claim (Some s) listed) → (t : Bool)
       → is_in_grid l s && is_later l previous s && is_early l claim s ≡ t
-      → or_wrong t (list_failure l claim (n + 1) (Some s) listed) n ≡ None → Shown l claim previous (s ∷ listed)
+      → or_wrong t (list_failure l claim (n + 1) (Some s) listed) n ≡ None → ListIsOrdered l claim previous (s ∷ listed)
   go further false e k = cc
   go further true e k =
       let outer = and_parts (is_in_grid l s && is_later l previous s) (is_early l claim s) e in
@@ -139,12 +139,12 @@ shown l claim n previous (s ∷ listed) lawful h = go (λ k. shown l claim (n + 
         rising = risings rest;
       }
 
-pub sorted_of : (l : Land) (claim : Claim) (previous : Option (List ℕ)) (listed : List (List ℕ)) → Shown l claim previous listed → IsSorted l listed
+pub sorted_of : (l : Land) (claim : Claim) (previous : Option (List ℕ)) (listed : List (List ℕ)) → ListIsOrdered l claim previous listed → IsSorted l listed
 sorted_of l claim previous listed s = record { grid = s.grid; rising = s.rising }
 
 pub ready : (l : Land) (claim : Claim) (listed : List (List ℕ)) → IsLawful l → claim_failure l claim ≡ None → list_failure l claim 4 None listed ≡ None → IsReady l claim listed
 ready l claim listed lawful h k = record {
   lawful = lawful;
   claimed = claim_is l claim lawful h;
-  sorted = sorted_of l claim None listed (shown l claim 4 None listed lawful k);
+  sorted = sorted_of l claim None listed (list_is_ordered l claim 4 None listed lawful k);
 }

@@ -24,7 +24,7 @@ use Rattle.box_core.specs.Ranges.{LineFits, StepsFit}
 use Rattle.box_cert.specs.Text.{HasDims}
 use Rattle.box_cert.proofs.Again.{cert_again}
 use Rattle.cert_check.proofs.Sound.{means}
-use Rattle.cert_laws.specs.Laws.{ClaimHolds, ResultFits, ResultIsFirst, ResultIsRead, ResultIsShort, ResultIsValid, ResultMeans, searched}
+use Rattle.cert_laws.specs.Laws.{ClaimHolds, ResultFits, ResultIsFirst, ResultIsRead, ResultIsShort, ResultIsValid, ResultMeans, search_cert}
 use Rattle.cert_laws.proofs.Sizes.{corners_few, line_size, order_few, total, tree_sizes}
 use Rattle.cert_laws.proofs.Spelled.{cert_short}
 
@@ -43,7 +43,7 @@ module _ (l : Land) (lawful : IsLawful l) (budget : ℕ) where
   abbrev Boxes : ℕ
   Boxes = min (need l) budget
 
-  -- how large the certificate is
+  -- bounds on the bytes of the text of the certificate, on its lines and on its listed recipes
   record IsSmall (listed : List (List ℕ)) (xs : List CertLine) : Type 0 where
     pub bytes : 60 * length listed + total line_size xs ≤ 36 * budget + 26
     pub lines : length xs ≤ 2 * budget + 1
@@ -93,11 +93,11 @@ result_fits l lawful budget few =
 pub result_is_short : (l : Land) → ResultIsShort l
 result_is_short l lawful budget few =
     let size = result_small l lawful budget in
-    let text = cert_short (length l.top.lo) (searched l budget) lawful.dyes.1 (result_fits l lawful budget few) in
+    let text = cert_short (length l.top.lo) (search_cert l budget) lawful.dyes.1 (result_fits l lawful budget few) in
     omega (arith, size.bytes, text, few)
 
 pub result_is_read : (l : Land) → ResultIsRead l
-result_is_read l lawful budget few = cert_again (length l.top.lo) (searched l budget) lawful.dyes.0 (result_fits l lawful budget few)
+result_is_read l lawful budget few = cert_again (length l.top.lo) (search_cert l budget) lawful.dyes.0 (result_fits l lawful budget few)
 
 both_true : (a b : Bool) → a && b ≡ true → (a ≡ true) × (b ≡ true)
 both_true true b h = (refl, h)

@@ -1,4 +1,4 @@
--- How many lines a search writes, and of which kinds.
+-- How many lines the certificate of a search has, and of which kinds.
 use Rattle.std.proofs.Common.{◌≡◌, ◌+◌, ◌*◌, ◌≤◌, ℕ, List, [], ◌∷◌, ◌++◌, Bool, true, false, length, if◌then◌else◌, sym, subst, length-append, arith}
 use Rattle.std.proofs.lemmas.Bool.{false≢true}
 use Rattle.box_specs.specs.declared.certificate.CertLine.{CertLine}
@@ -35,7 +35,7 @@ total_append size (x ∷ xs) ys =
     let rest = total_append size xs ys in
     omega (arith, rest)
 
--- what the lines of a tree take where so many boxes are judged, with 60 bytes more for each undecided line
+-- a bound on the bytes of the lines of a tree by the number of judged boxes, with 60 more bytes for each undecided line
 pub record Sizes (xs : List CertLine) (n : ℕ) : Type 0 where
   pub bytes : total line_size xs + 60 * total undecided_size xs ≤ 36 * n + 26
   pub lines : length xs ≤ 2 * n + 1
@@ -82,7 +82,7 @@ module _ (l : Land) where
     go true h g = subst (λ x. Sizes (x ∷ (xs ++ ys)) (1 + (m + n))) (sym (open_line l b i.1)) (split_sizes ((cut_of b).dye + 1) (cut_of b).mid m n xs ys h g)
     go false h g = dear_sizes (0 + (m + n))
 
-  -- no more recipes are listed than there are undecided lines
+  -- at most as many recipes are listed as there are undecided lines
   put_few : (r : List ℕ) (xs : List (List ℕ)) → length (put_in l r xs) ≤ 1 + length xs
   put_few r [] = omega arith
   put_few r (x ∷ xs) = go (put_few r xs) (is_before l r x) (is_before l x r) where

@@ -1,4 +1,4 @@
--- How long the text of a certificate is.
+-- The length of the text of a certificate.
 use Rattle.std.proofs.Common.{◌≡◌, ◌+◌, ◌*◌, ◌≤◌, ℕ, List, [], ◌∷◌, ◌++◌, length, decimal, length-append, arith}
 use Rattle.std.specs.Prelude.{codes}
 use Rattle.std.specs.List.{AllByRecursion}
@@ -16,7 +16,7 @@ use Rattle.cert_laws.proofs.Sizes.{line_size, total}
 small : (n : ℕ) → n ≤ 4000 → length (decimal n) ≤ 4
 small n h = length-decimal-le 4 n (omega arith) (omega (arith, h)) (omega (arith, h))
 
--- a number with what separates it from the next takes five bytes
+-- a number and the byte after it take at most five bytes
 numbers_short : (n : ℕ) (ns : List ℕ) → AllByRecursion (λ m. m ≤ 4000) (n ∷ ns) → length (numbers_text (n ∷ ns)) + 1 ≤ 5 * length (n ∷ ns)
 numbers_short n [] h =
     let one = small n h.0 in
@@ -75,24 +75,24 @@ claim_short : (claim : Claim) (dims : ℕ) → ClaimFits claim → HasDims dims 
 claim_short (Match recipe) dims h k d =
     let one = recipe_short recipe.items (recursion_from_All (λ m. m ≤ 4000) recipe.items h) (omega (arith, k, d)) in
     let text = ended_long (numbers_text recipe.items) in
-    let front = length-append (codes "match ") (numbers_text recipe.items) in
+    let keyword = length-append (codes "match ") (numbers_text recipe.items) in
     let all = ended_long (claim_text (Match recipe)) in
-    omega (arith, one, text, front, all)
+    omega (arith, one, text, keyword, all)
 claim_short NoMatch dims h k d = omega arith
 claim_short (Floor cost) dims h k d =
     let one = length-decimal-le 16 cost (omega arith) (omega (arith, h)) (omega (arith, h)) in
-    let front = length-append (codes "floor ") (decimal cost) in
+    let keyword = length-append (codes "floor ") (decimal cost) in
     let all = ended_long (claim_text (Floor cost)) in
-    omega (arith, one, front, all)
+    omega (arith, one, keyword, all)
 
 count_short : (n : ℕ) → n ≤ 1000000 → length (as_line (count_text n)) ≤ 18
 count_short n h =
     let one = length-decimal-le 7 n (omega arith) (omega (arith, h)) (omega (arith, h)) in
-    let front = length-append (codes "undecided ") (decimal n) in
+    let keyword = length-append (codes "undecided ") (decimal n) in
     let all = ended_long (count_text n) in
-    omega (arith, one, front, all)
+    omega (arith, one, keyword, all)
 
--- The head takes at most 100 bytes, and a listed recipe 60
+-- the head takes at most 100 bytes, and a listed recipe 60
 pub cert_short : (dims : ℕ) (c : Content) → dims ≤ 12 → IsCertFor dims c → length (cert_text c) ≤ 100 + 60 * length c.listed + total line_size c.lines
 unfolding cert_text head_text
 cert_short dims c few h =

@@ -3,7 +3,7 @@
 ghost use Rattle.box_specs.specs.Landscape.{Land};
 ghost use Rattle.cert_laws.specs.Laws.{ResultFits, ResultIsFirst, ResultIsRead, ResultIsShort, ResultIsValid, ResultMeans};
 
-/// The certificate of a search has numbers that can be written, its text is shorter than
+/// The numbers of the certificate of a search are in their ranges, its text is shorter than
 /// 40,000,000 bytes, and the text is read as that certificate.
 pub fn text()
     ensures fits { (l : Land) → ResultFits l }

@@ -1,5 +1,5 @@
-//! The laws of the certificate that a search ends with: how it is written and read, that it is
-//! valid, and what it says of the recipes.
+//! The laws of the certificate that a search ends with: its text is read as the same certificate,
+//! it is valid, and its claim holds.
 #![tactic(auto)]
 
 pub mod laws;
