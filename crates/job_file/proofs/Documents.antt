@@ -1,4 +1,4 @@
--- The table that a text writes.
+-- The table of a TOML document.
 use Rattle.std.proofs.Common.{◌≡◌, ℕ, List, Bool, true, false, cond, refl, ap, ◌∙◌}
 use Rattle.std.specs.Prelude.{Some, None}
 use Rattle.std.specs.Str.{IsUtf8, is_utf8}

@@ -1,4 +1,4 @@
--- Reading judges by rules: it gives the value where all of them hold, and else the fault of the first that is broken.
+-- Reading judges by rules: the result is the value where all of them hold, and else the fault of the first that is broken.
 use Rattle.std.proofs.Common.{◌≡◌, ◌∙◌, ◌++◌, Bool, true, false, Option, Some, None, Result, Ok, Err, List, [], ◌∷◌, map, refl, ap, sym, append_assoc, append-nil, arith}
 use Rattle.std.specs.Prelude.{if◌then◌else◌}
 use Rattle.std.proofs.lemmas.List.{map-append}
@@ -19,7 +19,7 @@ unfoldable pub judge : {A : Type 0} → List Rule → A → Result A JobFault
 judge [] x = Ok x
 judge (r ∷ rs) x = if r.holds then judge rs x else Err r.fault
 
--- ---- a rule after another
+-- ---- one rule after another
 
 pub done : {A : Type 0} (x : A) → Ok x ≡ judge [] x
 unfolding judge
@@ -54,7 +54,7 @@ ensure_is place rule b = refl
 
 -- ---- the value of a key
 
--- the rules of a value: that it is of its type, has as many items as it may have, and is in its range
+-- the rules of a value: it is of its type, has an allowed number of items, and is in its range
 abbrev pub kind_rules : Place → Bool → Bool → Bool → List Rule
 kind_rules place typed counted ranged = rule_at place WrongKind typed ∷ rule_at place BadCount counted ∷ rule_at place OutOfRange ranged ∷ []
 

@@ -1,4 +1,4 @@
--- Each reader of a key judges by the rules of the key.
+-- Each function that reads a key judges by the rules of the key.
 use Rattle.std.proofs.Common.{◌≡◌, ◌∙◌, ◌++◌, ℕ, ℤ, pos, negsuc, Bool, true, false, Option, Some, None, Result, Ok, List, [], ◌∷◌, length, map, refl, ap, sym, append_assoc, append-nil}
 use Rattle.std.specs.Prelude.{◌&&◌, nat_le, is_some, option_and_then, option_map, if◌then◌else◌}
 use Rattle.std.specs.List.{list_all}
@@ -155,7 +155,7 @@ naturals_read place low high zs = ap (or_fault place OutOfRange) (naturals_are l
   go true = refl
   go false = refl
 
--- an array of whole numbers, so many and each in a range
+-- an array of few to many whole numbers, each from low to high
 wholes_in : ℕ → ℕ → ℕ → ℕ → Place → Data → Result (List ℕ) JobFault
 wholes_in few many low high place v = array_in as_integer few many place v >>= (λ zs. or_fault place OutOfRange (naturals_after low high [] zs))
 

@@ -11,13 +11,13 @@ neither : (a b : Bool) → a || b ≡ false → (a ≡ false) × (b ≡ false)
 neither true b h = cc
 neither false b h = (refl, h)
 
--- where no dye has the name, the dye at an index has another
+-- where no dye has the name, the dye at an index does not have it
 other_name : (dyes : List JobDye) (text : List ℕ) (i : ℕ) (e : JobDye) → has_dye dyes text ≡ false → i < length dyes → bytes_eq (get_or dyes i e).name text ≡ false
 other_name [] text i e h l = absurd (omega arith)
 other_name (d ∷ dyes) text zero e h l = (neither (bytes_eq d.name text) (has_dye dyes text) h).0
 other_name (d ∷ dyes) text (suc i) e h l = other_name dyes text i e (neither (bytes_eq d.name text) (has_dye dyes text) h).1 (omega arith)
 
--- a dye whose name none before it has
+-- the names still differ after a dye whose name no dye before it has
 pub names_differ_push : (dyes : List JobDye) (d : JobDye) → NamesDiffer dyes → has_dye dyes d.name ≡ false → NamesDiffer (dyes ++ d ∷ [])
 names_differ_push dyes d h new i j e below last =
     let count = length-append dyes (d ∷ []) in

@@ -33,7 +33,7 @@ light_at place m =
     (then_read _ _ _ _ _ _ (whole_or_is (codes "c10") 1 100 10 t)
     (done _)))))
 
--- the light after those before it
+-- the next light, after those in `before`
 pub light_after : (before : List Members) (m : Members) → next_light (map light_value before) m ≡ judge (light_rules before m) (light_value m)
 unfolding light_rules
 light_after before m = rw length-map (light_at (light_place (length before + 1)) m)

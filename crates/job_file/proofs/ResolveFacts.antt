@@ -1,4 +1,4 @@
--- What the parts of a resolved job keep.
+-- What holds of the parts of a resolved job.
 use Rattle.std.proofs.Common.{◌≡◌, ◌≢◌, ◌+◌, ◌*◌, ◌≤◌, ◌++◌, ◌∙◌, ℕ, Bool, true, false, Option, Some, None, Result, Ok, Err, List, [], ◌∷◌, All, IfSome, length, map, refl, ap, sym, subst, append_assoc, append-nil, arith}
 use Rattle.std.specs.Prelude.{◌&&◌, ◌||◌, not, nat_le, if◌then◌else◌}
 use Rattle.std.specs.List.{AllZip}
@@ -29,7 +29,7 @@ use Rattle.job_file.specs.Faults.{◌>>=◌, ensure}
 use Rattle.job_file.specs.Pair.{IsPair}
 use Rattle.job_file.specs.Resolve.{base_curve, cost_of_dye, is_too_strong, limits_of, most_steps, next_calibrated, next_measured, number_of, numbers_of}
 
--- a dye that is calibrated for one of the job on a cloth
+-- a dye of the job, calibrated on a cloth
 pub record IsCalibrated (substrate : List ℕ) (dye : DyeData) (of : JobDye) : Type 0 where
   pub step : dye.step ≡ of.step
   pub substrate_is : dye.substrate ≡ substrate
@@ -123,7 +123,7 @@ bath_fits (x ∷ xs) (n ∷ ns) e h =
     let both = both_true (nat_le n x.most) (are_within xs ns) h in
     (leb-true n x.most both.0, bath_fits xs ns (omega (arith, e)) both.1)
 
--- the number of a dye is that of one
+-- the number of a dye of the job is from 1 to the number of dyes
 one_or_more : (b : Bool) (k : ℕ) → 1 ≤ (if b then 1 else (k + 1))
 one_or_more true k = omega arith
 one_or_more false k = omega arith
@@ -175,7 +175,7 @@ pairs_fit xs (p ∷ ps) each =
 
 batch_fits : (xs : List JobDye) (batch : Option JobBatch) → IfSome batch (IsBatch xs) → IfSome batch (λ b. IsRecipe (map cost_of_dye xs) b.steps.items)
 batch_fits xs None h = h
-batch_fits xs (Some b) h = bath_fits xs b.steps.items h.count h.within
+batch_fits xs (Some b) h = bath_fits xs b.steps.items h.count h.steps_in_range
 
 -- ---- the cloth
 

@@ -17,7 +17,7 @@ unfolding mixture_from
 length-mixture n ps wave [] = refl
 length-mixture n ps wave (k ∷ base) = let e = length-mixture n ps (wave + 1) base in omega (arith, e)
 
--- whether any passes from an index on
+-- whether any item from an index on passes the test
 any_from : (p : Ends → Bool) (xs : List Ends) (i : ℕ) (q : Ends) → slice_get xs i ≡ Some q → list_any p (drop i xs) ≡ (p q || list_any p (drop (suc i) xs))
 any_from p [] i q here = cc
 any_from p (x ∷ xs) zero q here = let e : Some x ≡ Some q = here in let same : x ≡ q = cc in ap (λ y. p y || list_any p xs) same

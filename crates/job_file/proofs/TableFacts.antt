@@ -1,4 +1,4 @@
--- The tables of a job beside those of the code.
+-- The tables of a job as definitions see them, and as the code holds them.
 use Rattle.std.proofs.Common.{◌≡◌, ℕ, List, [], ◌∷◌, map, ◌&&◌, ◌||◌, refl, ap, Bor, String, Global, string_bytes}
 use Rattle.std.specs.List.{list_all, list_any}
 use Rattle.std.specs.Map.{keys_of}

@@ -1,4 +1,4 @@
--- The arrays of a job, and how their items are read in turn.
+-- The arrays of a job, and how their items are read in order.
 use Rattle.std.specs.Prelude.{◌++◌, ◌&&◌, ℕ, ℤ, nat_le, Option, Some, None, option_and_then, Result, Ok, List, [], ◌∷◌, length}
 use Rattle.toml.specs.Data.{Data, Items, Members, no_items, item, get_member, as_array, as_table}
 use Rattle.job_file.specs.declared.fault.JobFault.{JobFault}
@@ -7,12 +7,12 @@ use Rattle.job_file.specs.declared.fault.Place.{Place}
 use Rattle.job_file.specs.Faults.{◌>>=◌, ◌>>◌, ensure, or_fault}
 use Rattle.job_file.specs.Keys.{Entries, natural_in, or_else, required}
 
--- the items read so far, and what each of the rest is read as, where all are of the kind
+-- the items read so far, followed by the rest as they are read, and None where one of the rest is not of the kind
 abbrev pub all_after : {A : Type 0} → (Data → Option A) → List A → Items → Option (List A)
 all_after kind before no_items = Some before
 all_after kind before (item value rest) = option_and_then (λ x. all_after kind (before ++ x ∷ []) rest) (kind value)
 
--- an array of items of a kind, of which there are as many as a range allows
+-- an array of items of a kind, whose number is in a range
 abbrev pub array_in : {A : Type 0} → (Data → Option A) → ℕ → ℕ → Place → Data → Result (List A) JobFault
 array_in kind low high place value = do
   items ← or_fault place WrongKind (as_array value)
@@ -26,7 +26,7 @@ tables key low high t = do
   value ← required key t
   array_in as_table low high t.place value
 
--- the tables of a key; there are none where it is absent
+-- the tables of a key, and none where the key is absent
 unfoldable pub tables_or_none : List ℕ → ℕ → Entries → Result (List Members) JobFault
 tables_or_none key high t = or_else [] (array_in as_table 0 high t.place) (get_member key t.members)
 
@@ -36,19 +36,19 @@ table_if_any key t = or_else None (λ value. do
   members ← or_fault t.place WrongKind (as_table value)
   Ok (Some members)) (get_member key t.members)
 
--- the numbers so far, and the rest, where each of the rest is in the range
+-- the numbers read so far, followed by the rest, and None where one of the rest is not in the range
 abbrev pub naturals_after : ℕ → ℕ → List ℕ → List ℤ → Option (List ℕ)
 naturals_after low high before [] = Some before
 naturals_after low high before (z ∷ zs) = option_and_then (λ n. naturals_after low high (before ++ n ∷ []) zs) (natural_in low high z)
 
--- reads the items in turn. Each is read with those before it at hand
+-- reads the items in order. How each is read may depend on those that were read before it
 abbrev pub each : {A B : Type 0} → (List A → B → Result A JobFault) → List A → List B → Result (List A) JobFault
 each read before [] = Ok before
 each read before (x ∷ xs) = do
   y ← read before x
   each read (before ++ y ∷ []) xs
 
--- what is read of a value that may be absent
+-- reads a value, if it is there
 abbrev pub if_there : {A B : Type 0} → (B → Result A JobFault) → Option B → Result (Option A) JobFault
 if_there read None = Ok None
 if_there read (Some x) = do

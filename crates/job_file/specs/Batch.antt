@@ -10,9 +10,9 @@ use Rattle.job_file.specs.declared.batch.JobBatch.{JobBatch}
 use Rattle.job_file.specs.declared.dye.JobDye.{JobDye}
 use Rattle.job_file.specs.Arrays.{array_in, naturals_after}
 use Rattle.job_file.specs.Faults.{◌>>=◌, ◌>>◌, ensure, or_fault}
-use Rattle.job_file.specs.Keys.{Entries, name, only, required}
+use Rattle.job_file.specs.Keys.{Entries, name, only_keys, required}
 
--- each number of steps is at most the most of its dye
+-- each number of steps is at most the `most` of its dye
 abbrev pub are_within : List JobDye → List ℕ → Bool
 are_within [] steps = true
 are_within (d ∷ dyes) [] = true
@@ -28,7 +28,7 @@ numbers_of_steps key t = do
 -- its keys: the name of its curve, and the steps of each dye that are in the bath
 unfoldable pub batch : List JobDye → Entries → Result JobBatch JobFault
 batch dyes t = do
-  only (codes "curve" ∷ codes "steps" ∷ []) t
+  only_keys (codes "curve" ∷ codes "steps" ∷ []) t
   curve ← name (codes "curve") t
   steps ← numbers_of_steps (codes "steps") t
   ensure t.place BatchLength (length steps == length dyes)
@@ -41,8 +41,8 @@ batch_place = record { part = Batch; item = 0; sub = 0 }
 abbrev pub batch_of : List JobDye → Members → Result JobBatch JobFault
 batch_of dyes members = batch dyes (record { place = batch_place; members = members })
 
--- what a batch holds: a curve's name, and for each dye a number of steps up to its most
+-- what a batch holds: a curve's name, and for each dye a number of steps up to its `most`
 pub record IsBatch (dyes : List JobDye) (b : JobBatch) : Type 0 where
   pub curve : is_name b.curve ≡ true
   pub count : length b.steps.items ≡ length dyes
-  pub within : are_within dyes b.steps.items ≡ true
+  pub steps_in_range : are_within dyes b.steps.items ≡ true

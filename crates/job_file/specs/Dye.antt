@@ -11,7 +11,7 @@ use Rattle.job_file.specs.declared.dye.JobDye.{JobDye}
 use Rattle.job_file.specs.Arrays.{each, tables}
 use Rattle.job_file.specs.Dyeing.{IsDyeing, next_dyeing}
 use Rattle.job_file.specs.Faults.{◌>>=◌, ◌>>◌, ensure}
-use Rattle.job_file.specs.Keys.{Entries, name, only, whole, whole_or}
+use Rattle.job_file.specs.Keys.{Entries, name, only_keys, whole, whole_or}
 
 -- some dye has the name
 abbrev pub has_dye : List JobDye → List ℕ → Bool
@@ -21,7 +21,7 @@ has_dye dyes text = list_any (λ d. bytes_eq d.name text) dyes
 -- The least is not above the most, the most steps weigh at most 20,000 units, and no dye before it has its name
 unfoldable pub dye : List JobDye → Entries → Result JobDye JobFault
 dye before t = do
-  only (codes "name" ∷ codes "price" ∷ codes "fee" ∷ codes "step" ∷ codes "least" ∷ codes "most" ∷ codes "dyeing" ∷ []) t
+  only_keys (codes "name" ∷ codes "price" ∷ codes "fee" ∷ codes "step" ∷ codes "least" ∷ codes "most" ∷ codes "dyeing" ∷ []) t
   text ← name (codes "name") t
   price ← whole (codes "price") 0 1000000 t
   fee ← whole_or (codes "fee") 0 1000000000000 0 t
@@ -35,7 +35,7 @@ dye before t = do
   ensure t.place DoubleDye (not (has_dye before text))
   Ok (record { name = text; price = price; fee = fee; step = step; least = least; most = most; dyeing = record { items = dyeings } })
 
--- the dye after those before it
+-- the next dye, after those in `before`
 abbrev pub next_dye : List JobDye → Members → Result JobDye JobFault
 next_dye before members = dye before (record { place = record { part = Dye; item = length before + 1; sub = 0 }; members = members })
 
@@ -53,6 +53,6 @@ pub record IsDye (d : JobDye) : Type 0 where
   pub some_dyeing : 1 ≤ length d.dyeing.items
   pub dyeings : All IsDyeing d.dyeing.items
 
--- no two dyes have one name
+-- no two dyes have the same name
 abbrev pub NamesDiffer : List JobDye → Type 0
 NamesDiffer dyes = AllPairs (λ a b. bytes_eq a.name b.name ≡ false) dyes

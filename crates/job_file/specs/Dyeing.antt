@@ -6,17 +6,17 @@ use Rattle.job_file.specs.declared.fault.JobFault.{JobFault}
 use Rattle.job_file.specs.declared.fault.Part.TheVariants.{Dyeing}
 use Rattle.job_file.specs.declared.dyeing.JobDyeing.{JobDyeing}
 use Rattle.job_file.specs.Faults.{◌>>=◌, ◌>>◌}
-use Rattle.job_file.specs.Keys.{Entries, name, only, whole}
+use Rattle.job_file.specs.Keys.{Entries, name, only_keys, whole}
 
 -- its keys: the units of dye on the cloth, and the name of its curve
 unfoldable pub dyeing : Entries → Result JobDyeing JobFault
 dyeing t = do
-  only (codes "units" ∷ codes "curve" ∷ []) t
+  only_keys (codes "units" ∷ codes "curve" ∷ []) t
   units ← whole (codes "units") 1 20000 t
   curve ← name (codes "curve") t
   Ok (record { units = units; curve = curve })
 
--- the dyeing of the dye of this number after those before it
+-- the next dyeing of the dye with this number, after those in `before`
 abbrev pub next_dyeing : ℕ → List JobDyeing → Members → Result JobDyeing JobFault
 next_dyeing dye before members = dyeing (record { place = record { part = Dyeing; item = dye; sub = length before + 1 }; members = members })
 

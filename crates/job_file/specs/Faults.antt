@@ -1,4 +1,4 @@
--- Reading a job from its first rule to its last, with the first fault that is met.
+-- Reading a job rule by rule, up to the first one that is broken.
 use Rattle.std.specs.Prelude.{◌≡◌, Bool, Option, Some, None, Result, Ok, Err, if◌then◌else◌}
 use Rattle.job_file.specs.declared.fault.JobError.{JobError}
 use Rattle.job_file.specs.declared.fault.JobError.TheVariants as errors
@@ -20,16 +20,16 @@ abbrev pub ◌>>◌ : {B : Type 0} → Result (Unit {0}) JobFault → Result B J
 abbrev pub fault_at : Place → JobRule → JobFault
 fault_at place rule = record { part = place.part; item = place.item; sub = place.sub; rule = rule }
 
--- the value, or where there is none the fault of a rule
+-- the value, or the fault of a rule where there is none
 abbrev pub or_fault : {A : Type 0} → Place → JobRule → Option A → Result A JobFault
 or_fault place rule None = Err (fault_at place rule)
 or_fault place rule (Some x) = Ok x
 
--- that a rule holds
+-- a check of a rule: its fault where it does not hold
 abbrev pub ensure : Place → JobRule → Bool → Result (Unit {0}) JobFault
 ensure place rule holds = if holds then Ok tt else Err (fault_at place rule)
 
--- what a call answers, seen by view, is what reading gives, unless memory ran out
+-- the result of a call, mapped by view, is what the definition reads, unless memory ran out
 abbrev pub Fails : {Y : Type 0} → JobError → Result Y JobFault → Type 0
 Fails errors.Memory read = Unit {0}
 Fails (errors.Fault fault) read = read ≡ Err fault

@@ -22,7 +22,7 @@ use Rattle.job_file.specs.Light.{next_light}
 use Rattle.job_file.specs.Pair.{next_pair}
 use Rattle.job_file.specs.Top.{head, inner, keys}
 
--- what a job holds
+-- the values of a job
 pub record Values : Type 0 where
   pub head : Head
   pub light : List JobLight
@@ -45,11 +45,11 @@ job_at rule t = do
   bath ← if_there (batch_of dyes) found.batch
   Ok (record { head = top; light = lights; dye = dyes; pair = pairs; batch = bath })
 
--- the table that a text in UTF-8 writes in TOML
+-- the table of a TOML document in UTF-8
 abbrev pub tree_of : List ℕ → Option Members
 tree_of text = if is_utf8 text then parse_document text else None
 
--- the job that a text writes, or its first fault
+-- the job that a text spells, or its first fault
 unfoldable pub job_of : BatchRule → List ℕ → Result Values JobFault
 job_of rule text = do
   members ← or_fault job_place NotToml (tree_of text)

@@ -34,7 +34,7 @@ part_keys rule =
     ∷ record { name = codes "batch"; needed = needs_batch rule; kind = a_table }
     ∷ []
 
--- one kilogram, 12 dyes, 240,000 units, no ceiling of the cost and 100,000 boxes, where they are absent
+-- the defaults of absent keys: one kilogram, 12 dyes, 240,000 units, no ceiling of the cost and 100,000 boxes
 unfoldable pub head_value : Members → Head
 head_value members = record {
   curves = text_at (codes "curves") members;
@@ -57,11 +57,11 @@ job_value members = record {
   batch = option_map batch_value (table_at (codes "batch") members);
 }
 
--- the keys beside `version`
+-- all keys but `version`
 abbrev pub top_keys : BatchRule → List Key
 top_keys rule = head_keys ++ part_keys rule
 
--- the version is 1, and there are no other keys: `batch` is one where the rule takes a batch
+-- the version is 1, and there are no unknown keys; `batch` is a known key where the rule takes a batch
 abbrev pub top_rules : BatchRule → Members → List Rule
 top_rules rule members =
     rule_at job_place NotVersion1 (is_some (version_of members))

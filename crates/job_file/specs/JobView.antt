@@ -1,4 +1,4 @@
--- What a job of the code holds.
+-- The values of a job that the code holds.
 use Rattle.job_file.specs.declared.job.Job.{Job}
 use Rattle.job_file.specs.Job.{Values}
 

@@ -1,4 +1,4 @@
--- What the type of jobs keeps.
+-- What holds of every value of the type of jobs.
 use Rattle.std.specs.Prelude.{◌≤◌, List, All, length}
 use Rattle.job_file.specs.declared.dye.JobDye.{JobDye}
 use Rattle.job_file.specs.declared.light.JobLight.{JobLight}
@@ -11,7 +11,7 @@ pub record AreLights (lights : List JobLight) : Type 0 where
   pub few : length lights ≤ 2
   pub range : All IsLight lights
 
--- one to twelve dyes, each in its ranges, no two of one name
+-- one to twelve dyes, each in its ranges, no two with the same name
 pub record AreDyes (dyes : List JobDye) : Type 0 where
   pub some : 1 ≤ length dyes
   pub few : length dyes ≤ 12

@@ -10,7 +10,7 @@ use Rattle.job_file.specs.Keys.{has_only, natural_in}
 use Rattle.job_file.specs.Rules.{Rule, rule_at}
 use Rattle.job_file.specs.Texts.{is_file_text}
 
--- what a value must be: of its type, with as many items as it may have, and in its range
+-- what a value must be: of its type, with an allowed number of items, and in its range
 pub record Kind : Type 0 where
   pub has_type : Data → Bool
   pub has_count : Data → Bool
@@ -50,11 +50,11 @@ a_file = a_text is_file_text
 abbrev pub a_table : Kind
 a_table = record { has_type = λ v. is_some (as_table v); has_count = λ v. true; is_in_range = λ v. true }
 
--- an array of so many tables
+-- an array of tables, whose number is in a range
 abbrev pub some_tables : ℕ → ℕ → Kind
 some_tables low high = record { has_type = λ v. is_some (items_of as_table v); has_count = λ v. passes (is_count_in low high) (items_of as_table v); is_in_range = λ v. true }
 
--- an array of so many whole numbers, each in a range
+-- an array of few to many whole numbers, each from low to high
 abbrev pub some_wholes : ℕ → ℕ → ℕ → ℕ → Kind
 some_wholes few many low high = record {
   has_type = λ v. is_some (items_of as_integer v);
@@ -76,7 +76,7 @@ must name kind = record { name = name; needed = true; kind = kind }
 abbrev pub may : List ℕ → Kind → Key
 may name kind = record { name = name; needed = false; kind = kind }
 
--- the rules of the value of a key, which is there or not
+-- the rules of the value of a key, which may be absent
 unfoldable pub value_rules : Place → Bool → Kind → Option Data → List Rule
 value_rules place needed kind value =
     rule_at place MissingKey (not needed || is_some value)
@@ -85,7 +85,7 @@ value_rules place needed kind value =
     ∷ rule_at place OutOfRange (passes kind.is_in_range value)
     ∷ []
 
--- the rules of each key in turn
+-- the rules of the keys in order
 unfoldable pub keys_rules : Place → List Key → Members → List Rule
 keys_rules place [] m = []
 keys_rules place (k ∷ keys) m = value_rules place k.needed k.kind (get_member k.name m) ++ keys_rules place keys m
@@ -94,7 +94,7 @@ keys_rules place (k ∷ keys) m = value_rules place k.needed k.kind (get_member 
 unfoldable pub table_rules : Place → List Key → Members → List Rule
 table_rules place keys members = rule_at place UnknownKey (has_only (map (λ k. k.name) keys) members) ∷ keys_rules place keys members
 
--- the rules of tables in turn, each with those before it at hand
+-- the rules of tables in order. Those of each may depend on the tables before it
 abbrev pub in_turn : (List Members → Members → List Rule) → List Members → List Members → List Rule
 in_turn rules before [] = []
 in_turn rules before (members ∷ rest) = rules before members ++ in_turn rules (before ++ members ∷ []) rest

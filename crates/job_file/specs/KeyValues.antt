@@ -1,4 +1,4 @@
--- The values of the keys of a table, with what stands where a key has no such value.
+-- The values of the keys of a table, with a default where a key has no such value.
 use Rattle.std.specs.Prelude.{ℕ, ℤ, pos, negsuc, Option, option_and_then, option_map, List, [], map}
 use Rattle.std.specs.Option.{unwrap_or}
 use Rattle.toml.specs.Data.{Members, as_integer, as_str, as_table, get_member}

@@ -1,4 +1,4 @@
--- The keys of a table of a job: what each must hold, and the first rule that it breaks.
+-- The keys of a table of a job: the value that each must have, or the first rule that it breaks.
 use Rattle.std.specs.Prelude.{◌&&◌, ℕ, ℤ, pos, negsuc, Bool, nat_le, Option, Some, None, Result, Ok, true, List, if◌then◌else◌}
 use Rattle.std.specs.List.{list_any}
 use Rattle.std.specs.Str.{bytes_eq}
@@ -12,12 +12,12 @@ use Rattle.job_file.specs.declared.section.Section.{Section}
 use Rattle.job_file.specs.Faults.{◌>>=◌, ensure, or_fault}
 use Rattle.job_file.specs.Texts.{is_file_text}
 
--- a table of a job, and where it stands
+-- a table of a job, and its place
 pub record Entries : Type 0 where
   pub place : Place
   pub members : Members
 
--- what a table of the code stands for
+-- the table that the code holds
 abbrev pub entries_of : Section → Entries
 entries_of s = record { place = s.place; members = table_view s.table.now }
 
@@ -26,9 +26,9 @@ abbrev pub has_only : List (List ℕ) → Members → Bool
 has_only keys no_members = true
 has_only keys (member key value rest) = list_any (λ k. bytes_eq k key) keys && has_only keys rest
 
--- the table has no other keys
-abbrev pub only : List (List ℕ) → Entries → Result (Unit {0}) JobFault
-only keys t = ensure t.place UnknownKey (has_only keys t.members)
+-- a check that the table has no other keys
+abbrev pub only_keys : List (List ℕ) → Entries → Result (Unit {0}) JobFault
+only_keys keys t = ensure t.place UnknownKey (has_only keys t.members)
 
 -- the value of a key that must be there
 abbrev pub required : List ℕ → Entries → Result Data JobFault
@@ -50,16 +50,16 @@ whole key low high t = do
   value ← required key t
   whole_in low high t.place value
 
--- what a value is read as, or what stands where the key is absent
+-- what is read of a value, or a default where the key is absent
 abbrev pub or_else : {A : Type 0} → A → (Data → Result A JobFault) → Option Data → Result A JobFault
 or_else absent read None = Ok absent
 or_else absent read (Some value) = read value
 
--- the whole number of a key that may be absent
+-- the whole number of a key, or a default where the key is absent
 unfoldable pub whole_or : List ℕ → ℕ → ℕ → ℕ → Entries → Result ℕ JobFault
 whole_or key low high absent t = or_else absent (whole_in low high t.place) (get_member key t.members)
 
--- the same where nothing stands for an absent key
+-- the whole number of a key, and None where the key is absent
 unfoldable pub whole_if_any : List ℕ → ℕ → ℕ → Entries → Result (Option ℕ) JobFault
 whole_if_any key low high t = or_else None (λ value. do
   n ← whole_in low high t.place value
@@ -71,13 +71,13 @@ text_in test place value = do
   text ← or_fault place WrongKind (as_str value)
   or_fault place OutOfRange (if test text then Some text else None)
 
--- the name of a required key: 1 to 32 bytes, as curves have them
+-- the name of a required key, which may be that of a curve: 1 to 32 bytes
 unfoldable pub name : List ℕ → Entries → Result (List ℕ) JobFault
 name key t = do
   value ← required key t
   text_in is_name t.place value
 
--- the file of a required key
+-- the file name of a required key
 unfoldable pub file_text : List ℕ → Entries → Result (List ℕ) JobFault
 file_text key t = do
   value ← required key t

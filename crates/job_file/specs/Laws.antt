@@ -9,15 +9,15 @@ use Rattle.job_file.specs.Job.{Values, job_of, job_place, tree_of}
 use Rattle.job_file.specs.JobRules.{job_rules, job_value}
 use Rattle.job_file.specs.Rules.{AllHold, IsFirstBroken, Rule, rule_at}
 
--- the table that a text writes, an empty one where it is no TOML
+-- the table that a text spells, and an empty one where the text is no TOML document
 abbrev pub table_of : List ℕ → Members
 table_of text = unwrap_or (tree_of text) no_members
 
--- the rules of the job that a text writes: the text is TOML, and then those of its table
+-- the rules of the job that a text spells: the text is TOML, and then those of its table
 unfoldable pub rules_of : BatchRule → List ℕ → List Rule
 rules_of rule text = rule_at job_place NotToml (is_some (tree_of text)) ∷ job_rules rule (table_of text)
 
--- the values of the keys of the job that a text writes
+-- the values of the keys of the job that a text spells
 unfoldable pub values_of : List ℕ → Values
 values_of text = job_value (table_of text)
 

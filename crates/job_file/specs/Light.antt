@@ -5,20 +5,20 @@ use Rattle.job_file.specs.declared.fault.JobFault.{JobFault}
 use Rattle.job_file.specs.declared.fault.Part.TheVariants.{Light}
 use Rattle.job_file.specs.declared.light.JobLight.{JobLight}
 use Rattle.job_file.specs.Faults.{◌>>=◌, ◌>>◌}
-use Rattle.job_file.specs.Keys.{Entries, file_text, only, whole, whole_or}
+use Rattle.job_file.specs.Keys.{Entries, file_text, only_keys, whole, whole_or}
 use Rattle.job_file.specs.Texts.{is_file_text}
 
 -- its keys: the weights' file, the tolerance in thousandths, and l and c in tenths, 2:1 where they are absent
 unfoldable pub light : Entries → Result JobLight JobFault
 light t = do
-  only (codes "weights" ∷ codes "tolerance" ∷ codes "l10" ∷ codes "c10" ∷ []) t
+  only_keys (codes "weights" ∷ codes "tolerance" ∷ codes "l10" ∷ codes "c10" ∷ []) t
   weights ← file_text (codes "weights") t
   tolerance ← whole (codes "tolerance") 0 100000 t
   l10 ← whole_or (codes "l10") 1 100 20 t
   c10 ← whole_or (codes "c10") 1 100 10 t
   Ok (record { weights = weights; tolerance = tolerance; l10 = l10; c10 = c10 })
 
--- the light after those before it
+-- the next light, after those in `before`
 abbrev pub next_light : List JobLight → Members → Result JobLight JobFault
 next_light before members = light (record { place = record { part = Light; item = length before + 1; sub = 0 }; members = members })
 

@@ -38,7 +38,7 @@ light_value members = record {
 abbrev pub light_place : ℕ → Place
 light_place number = record { part = Light; item = number; sub = 0 }
 
--- the rules of the light after those before it
+-- the rules of the next light, after those in `before`
 unfoldable pub light_rules : List Members → Members → List Rule
 light_rules before members = table_rules (light_place (length before + 1)) light_keys members
 
@@ -53,7 +53,7 @@ dyeing_value members = record { units = whole_at (codes "units") 0 members; curv
 abbrev pub dyeing_place : ℕ → ℕ → Place
 dyeing_place dye number = record { part = Dyeing; item = dye; sub = number }
 
--- the rules of the dyeing of the dye of this number after those before it
+-- the rules of the next dyeing of the dye with this number, after those in `before`
 unfoldable pub dyeing_rules : ℕ → List Members → Members → List Rule
 dyeing_rules dye before members = table_rules (dyeing_place dye (length before + 1)) dyeing_keys members
 
@@ -70,7 +70,7 @@ dye_keys =
     ∷ must (codes "dyeing") (some_tables 1 8)
     ∷ []
 
--- no fee and one step at least, where they are absent
+-- the defaults of absent keys: no fee, and a least number of one step
 unfoldable pub dye_value : Members → JobDye
 dye_value members = record {
   name = text_at (codes "name") members;
@@ -85,8 +85,8 @@ dye_value members = record {
 abbrev pub dye_place : ℕ → Place
 dye_place number = record { part = Dye; item = number; sub = 0 }
 
--- the closing rules of a dye after those before it: the least is not above the most, the most steps weigh at most 20,000
--- units, and no dye before it has its name
+-- the closing rules of the next dye, after those in `before`: the least is not above the most, the most steps weigh at most
+-- 20,000 units, and no dye before it has its name
 abbrev pub dye_closing : Place → List JobDye → JobDye → List Rule
 dye_closing place before d =
     rule_at place OutOfRange (nat_le d.least d.most)
@@ -94,7 +94,7 @@ dye_closing place before d =
     ∷ rule_at place DoubleDye (not (has_dye before d.name))
     ∷ []
 
--- the rules of the dye after those before it: those of its keys, those of its dyeings, and the closing rules
+-- the rules of the next dye, after those in `before`: those of its keys, those of its dyeings, and the closing rules
 unfoldable pub dye_rules : List Members → Members → List Rule
 dye_rules before members =
     table_rules (dye_place (length before + 1)) dye_keys members
@@ -112,14 +112,14 @@ pair_value members = record { a = text_at (codes "a") members; b = text_at (code
 abbrev pub pair_place : ℕ → Place
 pair_place number = record { part = Pair; item = number; sub = 0 }
 
--- the closing rules of a pair: both are dyes of the job, and they are two
+-- the closing rules of a pair: both are dyes of the job, and they are different
 abbrev pub pair_closing : Place → List JobDye → JobPair → List Rule
 pair_closing place dyes p =
     rule_at place UnknownDye (has_dye dyes p.a && has_dye dyes p.b)
     ∷ rule_at place SamePair (not (bytes_eq p.a p.b))
     ∷ []
 
--- the rules of the pair after those before it
+-- the rules of the next pair, after those in `before`
 unfoldable pub pair_rules : List JobDye → List Members → Members → List Rule
 pair_rules dyes before members =
     table_rules (pair_place (length before + 1)) pair_keys members ++ pair_closing (pair_place (length before + 1)) dyes (pair_value members)
@@ -132,7 +132,7 @@ batch_keys = must (codes "curve") a_name ∷ must (codes "steps") (some_wholes 1
 unfoldable pub batch_value : Members → JobBatch
 batch_value members = record { curve = text_at (codes "curve") members; steps = record { items = wholes_at (codes "steps") members } }
 
--- the closing rules of a batch: one number of steps for each dye, which is at most the most of the dye
+-- the closing rules of a batch: one number of steps for each dye, which is at most the `most` of the dye
 abbrev pub batch_closing : List JobDye → JobBatch → List Rule
 batch_closing dyes b =
     rule_at batch_place BatchLength (length b.steps.items == length dyes)

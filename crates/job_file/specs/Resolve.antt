@@ -1,5 +1,5 @@
--- What a job comes to over the curves of a file: each name of a curve stands for that curve, and a recipe of all dyes at
--- their most steps must not be too strong.
+-- A job with the curves of a file: each name of a curve is resolved to that curve, and a recipe of all dyes at their most
+-- steps must not be too strong.
 use Rattle.std.specs.Prelude.{◌+◌, ◌*◌, ◌^◌, ℕ, pos, Bool, not, int_lt, Option, Some, None, Result, Ok, List, [], ◌∷◌, length, map, if◌then◌else◌}
 use Rattle.std.specs.List.{list_any}
 use Rattle.std.specs.Str.{bytes_eq}
@@ -22,17 +22,17 @@ use Rattle.job_file.specs.Batch.{batch_place}
 use Rattle.job_file.specs.Faults.{◌>>=◌, ◌>>◌, ensure, or_fault}
 use Rattle.job_file.specs.Job.{Values, job_place}
 
--- the curve of a name, which the book must have
+-- the curve of a name, or a fault where the book has none of this name
 abbrev pub curve_of : Book → Place → List ℕ → Result (List ℕ) JobFault
 curve_of book place name = or_fault place UnknownColumn (curve_named name book)
 
--- the dyeing of the dye of this number after those before it, with its curve
+-- the next dyeing of the dye with this number, after those in `before`, with its curve
 abbrev pub next_measured : Book → ℕ → List Measured → JobDyeing → Result Measured JobFault
 next_measured book dye before d = do
   curve ← curve_of book (record { part = Dyeing; item = dye; sub = length before + 1 }) d.curve
   Ok (d.units, curve)
 
--- the dye after those before it, calibrated on the substrate
+-- the next dye, after those in `before`, calibrated on the substrate
 abbrev pub next_calibrated : Book → List ℕ → List DyeData → JobDye → Result DyeData JobFault
 next_calibrated book substrate before d = do
   dyeings ← each (next_measured book (length before + 1)) [] d.dyeing.items
@@ -42,7 +42,7 @@ next_calibrated book substrate before d = do
 abbrev pub cost_of_dye : JobDye → DyeCost
 cost_of_dye d = record { step = d.step; least = d.least; most = d.most; price = d.price; fee = d.fee }
 
--- the number of the first dye of a name, counted from 1: one more than there are dyes where none has it
+-- the number of the first dye with a name, counted from 1, or one more than the number of dyes where no dye has it
 abbrev pub number_of : List JobDye → List ℕ → ℕ
 number_of [] name = 1
 number_of (d ∷ dyes) name = if bytes_eq d.name name then 1 else (number_of dyes name + 1)
@@ -50,7 +50,7 @@ number_of (d ∷ dyes) name = if bytes_eq d.name name then 1 else (number_of dye
 abbrev pub numbers_of : List JobDye → JobPair → ℕ × ℕ
 numbers_of dyes p = (number_of dyes p.a, number_of dyes p.b)
 
--- the limits of a job, over a bath without dye
+-- the limits of a job, for a bath without dye
 abbrev pub limits_of : Values → LimitsView
 limits_of j = record {
   max_dyes = j.head.max_dyes;
@@ -74,7 +74,7 @@ unfoldable pub is_too_strong : List ℕ → List DyeData → List ℕ → Bool
 is_too_strong base dyes steps =
     list_any (λ q. int_lt (pos (10 ^ 6 * 10 ^ 12)) q.hi) (mixture_ks_at (10 ^ 12) (base_at (10 ^ 12) base) (portions dyes steps steps))
 
--- what a job comes to
+-- a resolved job
 pub record ResolvedJob : Type 0 where
   pub job : Values
   pub substrate : List ℕ
@@ -85,7 +85,8 @@ pub record ResolvedJob : Type 0 where
   pub weights : List WeightTable
   pub batch : Option (List ℕ)
 
--- the first name without a curve: of the substrate, of the standard, of the dyeings in turn, of the batch; then the strength
+-- the resolved job, or its first fault: a name without a curve, of the substrate, of the standard, of the dyeings in order or of
+-- the batch; and then dyes that are too strong
 unfoldable pub resolved_job : Book → Values → List WeightTable → Result ResolvedJob JobFault
 resolved_job book j weights = do
   substrate ← curve_of book job_place j.head.substrate

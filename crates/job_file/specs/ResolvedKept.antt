@@ -1,19 +1,19 @@
--- What the type of resolved jobs keeps.
+-- What holds of every value of the type of resolved jobs.
 use Rattle.std.specs.Prelude.{◌≡◌, false, All, IfSome, length, map}
 use Rattle.std.specs.List.{AllZip}
 use Rattle.price_grid.specs.Grid.{IsRecipe}
 use Rattle.price_grid.specs.Limits.{FitGrid}
 use Rattle.job_file.specs.Resolve.{ResolvedJob, base_curve, is_too_strong}
 
--- all that a resolved job holds has the same number of wavelengths
+-- all curves and weights of a resolved job have the same number of wavelengths
 pub record HaveEqualWaves (r : ResolvedJob) : Type 0 where
   pub standard : length r.standard ≡ length r.substrate
   pub batch : IfSome r.batch (λ c. length c ≡ length r.substrate)
   pub dyes : All (λ d. length d.substrate ≡ length r.substrate) r.dyes
   pub weights : All (λ w. length w.weights ≡ length r.substrate) r.weights
 
--- a dye of the grid for each of the job, and a calibrated one for each of the grid, with the same step; weights for each light; limits and a bath that fit the grid; and a
--- recipe of all dyes at their most steps is not too strong
+-- a dye of the grid for each of the job, and a calibrated one for each of the grid, with the same step; weights for each light;
+-- limits and a bath that fit the grid; and a recipe of all dyes at their most steps is not too strong
 pub record IsResolved (r : ResolvedJob) : Type 0 where
   pub grid : length r.grid ≡ length r.job.dye
   pub steps : AllZip (λ dye cost. dye.step ≡ cost.step) r.dyes r.grid

@@ -1,4 +1,4 @@
--- What the type of resolved jobs keeps has one proof at most.
+-- What holds of every resolved job is a proposition: it has at most one proof.
 use Rattle.std.specs.Prelude.{◌≡◌, ◌≤◌, ℕ, List, [], ◌∷◌}
 use Rattle.std.specs.List.{AllZip}
 use Rattle.std.specs.Coded.{×_prop, Unit-prop, le_prop}

@@ -1,4 +1,4 @@
--- What a resolved job of the code holds.
+-- The values of a resolved job that the code holds.
 use Rattle.price_grid.specs.Limits.{limits_view}
 use Rattle.job_file.specs.declared.resolved.Resolved.{Resolved}
 use Rattle.job_file.specs.JobView.{job_view}

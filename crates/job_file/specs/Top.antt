@@ -9,7 +9,7 @@ use Rattle.job_file.specs.declared.top.BatchRule.TheVariants.{Either, With, With
 use Rattle.job_file.specs.declared.top.Head.{Head}
 use Rattle.job_file.specs.Arrays.{table_if_any, tables, tables_or_none}
 use Rattle.job_file.specs.Faults.{◌>>=◌, ◌>>◌, ensure, or_fault}
-use Rattle.job_file.specs.Keys.{Entries, file_text, name, natural_in, only, whole_if_any, whole_or}
+use Rattle.job_file.specs.Keys.{Entries, file_text, name, natural_in, only_keys, whole_if_any, whole_or}
 use Rattle.job_file.specs.Texts.{is_file_text}
 
 -- a batch may be in the job
@@ -27,7 +27,7 @@ needs_batch Either = false
 abbrev pub has_key : List ℕ → Entries → Bool
 has_key key t = is_some (get_member key t.members)
 
--- the version, a whole number, is 1
+-- the version, if it is the whole number 1
 abbrev pub version_of : Members → Option ℕ
 version_of members = option_and_then (λ value. option_and_then (λ z. natural_in 1 1 z) (as_integer value)) (get_member (codes "version") members)
 
@@ -58,7 +58,7 @@ pub record Inner : Type 0 where
   pub pair : List Members
   pub batch : Option Members
 
--- one or two lights, one to twelve dyes, up to 66 pairs, and a batch by the rule
+-- one or two lights, one to twelve dyes, up to 66 pairs, and a batch, which must be there where the rule needs one
 unfoldable pub inner : BatchRule → Entries → Result Inner JobFault
 inner rule t = do
   lights ← tables (codes "light") 1 2 t
@@ -68,11 +68,11 @@ inner rule t = do
   found ← table_if_any (codes "batch") t
   Ok (record { light = lights; dye = dyes; pair = pairs; batch = found })
 
--- that the version is 1, and that there are no other keys: `batch` is one where the rule takes a batch
+-- a check that the version is 1, and that there are no unknown keys; `batch` is a known key where the rule takes a batch
 unfoldable pub keys : BatchRule → Entries → Result (Unit {0}) JobFault
 keys rule t = do
   version ← or_fault t.place NotVersion1 (version_of t.members)
-  only job_keys t
+  only_keys job_keys t
   ensure t.place UnknownKey (takes_batch rule || not (has_key (codes "batch") t))
 
 -- the ranges of the texts and numbers of a job

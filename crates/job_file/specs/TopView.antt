@@ -1,4 +1,4 @@
--- What the tables that the code finds in a job stand for.
+-- The tables that the code finds in a job.
 use Rattle.std.specs.Prelude.{map, option_map}
 use Rattle.toml.specs.View.{table_view}
 use Rattle.job_file.specs.declared.top.Inner.{Inner as Found}

@@ -12,7 +12,7 @@ use crate::section::Section;
 use std::alloc::Global;
 use toml::{Table, Value};
 
-/// The tables among the values, if all are tables.
+/// The values as tables, or a fault where one is not a table.
 fn all_tables<'a>(
     alloc: Global,
     place: Place,
@@ -31,7 +31,7 @@ fn all_tables<'a>(
     Ok(tables)
 }
 
-/// That an array has as many items as a range allows.
+/// Checks that the number of items of an array is in a range.
 pub(crate) fn count_in(place: Place, low: usize, high: usize, count: usize) -> Result<(), JobError>
     ensures is { Gives (λ x. x) result
         (ensure place JobRule.BadCount (nat_le low count && nat_le count high)) }
@@ -44,7 +44,7 @@ pub(crate) fn count_in(place: Place, low: usize, high: usize, count: usize) -> R
     }
 }
 
-/// The tables of an array, as many as a range allows.
+/// The tables of an array, whose number is in a range.
 fn tables_in<'a>(
     alloc: Global,
     low: usize,
@@ -63,7 +63,7 @@ fn tables_in<'a>(
 }
 
 impl<'a> Section<'a> {
-    /// The tables of a required key, as many as a range allows.
+    /// The tables of a required key, whose number is in a range.
     #[tactic(auto, unfolding(crate::specs::Arrays::tables))]
     pub(crate) fn tables(
         &self,
@@ -80,7 +80,7 @@ impl<'a> Section<'a> {
         tables_in(alloc, low, high, self.place, value)
     }
 
-    /// The tables of a key, up to so many; none where it is absent.
+    /// The tables of a key, at most `high`; none where the key is absent.
     #[tactic(auto, unfolding(crate::specs::Arrays::tables_or_none))]
     pub(crate) fn tables_or_none(
         &self,
@@ -98,7 +98,7 @@ impl<'a> Section<'a> {
         }
     }
 
-    /// The table of a key, if it is there.
+    /// The table of a key, if the key is there.
     #[tactic(auto, unfolding(crate::specs::Arrays::table_if_any))]
     pub(crate) fn table_if_any(&self, key: &str) -> Result<Option<&'a Table>, JobError>
         ensures { Gives (option_map (λ t. table_view t.now)) result

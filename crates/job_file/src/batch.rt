@@ -28,7 +28,7 @@ pub struct JobBatch {
     pub steps: Steps,
 }
 
-/// The whole numbers among the values, if all are whole numbers.
+/// The values as whole numbers, or a fault where one is not a whole number.
 fn all_numbers(alloc: Global, place: Place, values: &[Value]) -> Result<Vec<i64>, JobError>
     ensures { Gives (λ v. v.items) result
         (or_fault place JobRule.WrongKind (all_after as_integer [] (items_view values.now))) }
@@ -71,7 +71,7 @@ fn numbers_of_steps(alloc: Global, table: &Section, key: &str) -> Result<Steps, 
     steps_of(table.place, &numbers)
 }
 
-/// Whether each number of steps is at most the most of its dye.
+/// Whether each number of steps is at most the `most` of its dye.
 fn are_within(dyes: &[JobDye], steps: &[u16]) -> bool
     requires { length steps.now ≡ length dyes.now }
     ensures is { result ≡ are_within dyes.now steps.now }
@@ -84,13 +84,13 @@ fn are_within(dyes: &[JobDye], steps: &[u16]) -> bool
     true
 }
 
-/// Reads the batch, over these dyes.
+/// Reads the batch of a job with these dyes.
 #[tactic(auto, unfolding(crate::specs::Batch::batch))]
 fn batch(alloc: Global, dyes: &[JobDye], table: &Section) -> Result<JobBatch, JobError>
     ensures is { Gives (λ b. b) result (batch dyes.now (entries_of table.now)) }
     ensures range { IfOk result (IsBatch dyes.now) }
 {
-    table.only(&["curve", "steps"])?;
+    table.only_keys(&["curve", "steps"])?;
     let curve = table.name(alloc, "curve")?;
     let steps = numbers_of_steps(alloc, table, "steps")?;
     table

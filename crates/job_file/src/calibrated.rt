@@ -17,7 +17,7 @@ use ks_curves::Dye;
 use spectral_tables::{Curve, CurveBook};
 use std::alloc::Global;
 
-/// The curve of a name, which the book must have.
+/// The curve of a name, or a fault where the book has none of this name.
 pub(crate) fn curve_of(book: &CurveBook, place: Place, name: &str) -> Result<Curve, JobError>
     ensures is { Gives (λ c. c) result (curve_of book.now place name.now) }
     ensures waves { IfOk result (λ c. length c ≡ wave_count book.now) }
@@ -26,7 +26,7 @@ pub(crate) fn curve_of(book: &CurveBook, place: Place, name: &str) -> Result<Cur
     Ok(curve.clone()?)
 }
 
-/// The dyeing of the dye of this number after those before it, with its curve.
+/// The next dyeing of the dye with this number, after those in `before`, with its curve.
 fn next_measured(
     book: &CurveBook,
     dye: u32,
@@ -47,7 +47,7 @@ fn next_measured(
     Ok((dyeing.units, curve))
 }
 
-/// The dyeings of the dye of this number, in turn, with their curves.
+/// The dyeings of the dye with this number, in order, with their curves.
 fn measured(
     book: &CurveBook,
     dye: u32,
@@ -67,7 +67,7 @@ fn measured(
     Ok(measured)
 }
 
-/// The dye after those before it, calibrated on the substrate.
+/// The next dye, after those in `before`, calibrated on the substrate.
 fn next_calibrated(
     book: &CurveBook,
     substrate: &Curve,
@@ -84,7 +84,7 @@ fn next_calibrated(
     Ok(Dye::of(dye.step, substrate.clone()?, dyeings))
 }
 
-/// The dyes, in turn, calibrated on the substrate.
+/// The dyes, in order, calibrated on the substrate.
 pub(crate) fn calibrated(
     alloc: Global,
     book: &CurveBook,

@@ -22,13 +22,13 @@ pub struct JobDye {
     pub name: Text,
     /// The price of a unit, 0 to 1,000,000 cost units.
     pub price: u64,
-    /// What is paid once where any of it is used, 0 to 10^12 cost units.
+    /// The fee that is paid once if any of it is used, 0 to 10^12 cost units.
     pub fee: u64,
     /// The units of one step, 1 to 20,000.
     pub step: u32,
     /// The fewest steps of a recipe that uses it, 1 to 4,000.
     pub least: u16,
-    /// The most steps of a recipe, 1 to 4,000, which weigh at most 20,000 units together.
+    /// The most steps of a recipe, 1 to 4,000. All these steps weigh at most 20,000 units.
     pub most: u16,
     /// Its laboratory dyeings, one to eight.
     pub dyeing: ArrayVec<JobDyeing, 8>,
@@ -41,14 +41,14 @@ pub(crate) fn has_dye(dyes: &[JobDye], name: &str) -> bool
     dyes.iter().any(|dye| dye.name.as_str() == name)
 }
 
-/// Reads a dye, where these stand before it.
+/// Reads a dye that comes after those in `before`.
 #[tactic(auto, unfolding(crate::specs::Dye::dye))]
 fn dye(alloc: Global, before: &[JobDye], table: &Section) -> Result<JobDye, JobError>
     ensures is { Gives (λ d. d) result (dye before.now (entries_of table.now)) }
     ensures range { IfOk result IsDye }
     ensures new { IfOk result (λ d. has_dye before.now d.name ≡ false) }
 {
-    table.only(&["name", "price", "fee", "step", "least", "most", "dyeing"])?;
+    table.only_keys(&["name", "price", "fee", "step", "least", "most", "dyeing"])?;
     let name = table.name(alloc, "name")?;
     let price = table.whole("price", 0, 1_000_000)?;
     let fee = table.whole_or("fee", 0, 1_000_000_000_000, 0)?;
@@ -73,7 +73,7 @@ fn dye(alloc: Global, before: &[JobDye], table: &Section) -> Result<JobDye, JobE
     })
 }
 
-/// Reads the dye after those before it.
+/// Reads the next dye, after those in `before`.
 fn next_dye(alloc: Global, before: &[JobDye], table: &Table) -> Result<JobDye, JobError>
     requires { length before.now ≤ 12 }
     ensures is { Gives (λ d. d) result (next_dye before.now (table_view table.now)) }
@@ -88,7 +88,7 @@ fn next_dye(alloc: Global, before: &[JobDye], table: &Table) -> Result<JobDye, J
     dye(alloc, before, &Section { place, table })
 }
 
-/// Reads the dyes in turn.
+/// Reads the dyes in order.
 #[tactic(auto, using(crate::proofs::NameFacts::names_differ_push))]
 pub(crate) fn dyes(alloc: Global, tables: &[&Table]) -> Result<ArrayVec<JobDye, 12>, JobError>
     requires { length tables.now ≤ 12 }

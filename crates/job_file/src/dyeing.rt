@@ -29,7 +29,7 @@ fn dyeing(alloc: Global, table: &Section) -> Result<JobDyeing, JobError>
     ensures is { Gives (λ d. d) result (dyeing (entries_of table.now)) }
     ensures range { IfOk result IsDyeing }
 {
-    table.only(&["units", "curve"])?;
+    table.only_keys(&["units", "curve"])?;
     let units = table.whole("units", 1, 20_000)?;
     let curve = table.name(alloc, "curve")?;
     Ok(JobDyeing {
@@ -38,7 +38,7 @@ fn dyeing(alloc: Global, table: &Section) -> Result<JobDyeing, JobError>
     })
 }
 
-/// Reads the dyeing of the dye of this number after those before it.
+/// Reads the next dyeing of the dye with this number, after those in `before`.
 fn next_dyeing(
     alloc: Global,
     dye: u32,
@@ -57,7 +57,7 @@ fn next_dyeing(
     dyeing(alloc, &Section { place, table })
 }
 
-/// Reads the dyeings of the dye of this number in turn.
+/// Reads the dyeings of the dye with this number in order.
 pub(crate) fn dyeings(
     alloc: Global,
     dye: u32,

@@ -17,7 +17,7 @@ pub enum Part {
     Dye,
     /// A dyeing of a dye.
     Dyeing,
-    /// A pair of dyes that may not stand together.
+    /// A pair of dyes that may not be used together.
     Pair,
     /// The batch that is to be corrected.
     Batch,
@@ -42,13 +42,13 @@ pub enum JobRule {
     BadCount,
     /// An earlier dye has the same name.
     DoubleDye,
-    /// A pair names a dye that the job has not.
+    /// A pair names a dye that the job does not have.
     UnknownDye,
     /// A pair names one dye twice.
     SamePair,
-    /// The batch has not one number of steps for each dye.
+    /// The batch does not have exactly one number of steps for each dye.
     BatchLength,
-    /// The steps of a dye weigh more than 20,000 units together.
+    /// The most steps of a dye weigh more than 20,000 units.
     TooWide,
     /// The curve file has no such curve.
     UnknownColumn,
@@ -66,7 +66,7 @@ pub struct JobFault {
     pub rule: JobRule,
 }
 
-/// Why a job has no value.
+/// Why a job was not read, or its curves were not found.
 #[derive(Debug, Drop, Error)]
 pub enum JobError {
     /// The first fault of the job.
@@ -87,7 +87,7 @@ impl From<AllocError> for JobError {
     }
 }
 
-/// Where a table of a job stands.
+/// The place of a table in a job.
 #[derive(Clone, Copy, Debug, PartialEq, Eq)]
 pub(crate) struct Place {
     pub part: Part,
@@ -96,7 +96,7 @@ pub(crate) struct Place {
 }
 
 impl Place {
-    /// The fault of a rule that is broken here.
+    /// The fault of a rule that is broken at this place.
     pub(crate) fn fault(self, rule: JobRule) -> JobError
         ensures { result ≡ JobError.Fault (fault_at self rule) }
     {
@@ -108,7 +108,7 @@ impl Place {
         })
     }
 
-    /// That a rule holds here.
+    /// Checks that a rule holds at this place.
     pub(crate) fn ensure(self, holds: bool, rule: JobRule) -> Result<(), JobError>
         ensures { Gives (λ x. x) result (ensure self rule holds) }
     {

@@ -14,7 +14,7 @@ use crate::pair::JobPair;
 use crate::text::Text;
 use arrayvec::ArrayVec;
 
-/// A job: the curves, the lights and the dyes that a recipe is looked for with, and what it may be.
+/// A job: the curves, the lights, the dyes and the limits for which a recipe is searched.
 #[derive(Debug, Drop)]
 pub struct Job {
     /// The version of the format, 1.
@@ -31,15 +31,15 @@ pub struct Job {
     pub max_dyes: u8,
     /// The most units of all dyes of a recipe together, 1 to 240,000.
     pub max_total: u32,
-    /// The highest cost of a recipe, up to 10^15 cost units.
+    /// The highest cost of a recipe, up to 10^15 cost units, if there is a limit.
     pub max_cost: Option<u64>,
     /// How many boxes of recipes the search may judge, 1 to 1,000,000.
     pub budget: u32,
     /// The lights, one or two.
     pub light: ArrayVec<JobLight, 4>,
-    /// The dyes, one to twelve, no two of one name.
+    /// The dyes, one to twelve, no two with the same name.
     pub dye: ArrayVec<JobDye, 12>,
-    /// The pairs of dyes that may not stand together, up to 66.
+    /// The pairs of dyes that may not be used together, up to 66.
     pub pair: ArrayVec<JobPair, 66>,
     /// The batch that is to be corrected, if there is one.
     pub batch: Option<JobBatch>,

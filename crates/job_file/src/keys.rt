@@ -1,4 +1,4 @@
-//! What the keys of a table must hold.
+//! The values that the keys of a table must have.
 
 ghost use Rattle.std.specs.Prelude.{◌≡◌, ◌≤◌, IfOk, IfSome, Some, option_map, true};
 ghost use Rattle.spectral_tables.specs.Name.{is_name};
@@ -14,7 +14,7 @@ use spectral_tables::is_name;
 use std::alloc::Global;
 use toml::Value;
 
-/// A number in a range.
+/// The number, if it is in a range.
 pub(crate) fn natural_in(low: u64, high: u64, number: i64) -> Option<u64>
     ensures is { result ≡ natural_in low high number }
     ensures range { IfSome result (λ n. (low ≤ n) × (n ≤ high)) }
@@ -44,7 +44,7 @@ impl Section<'_> {
         whole_in(low, high, self.place, value)
     }
 
-    /// The whole number of a key, or `absent` where it is not there.
+    /// The whole number of a key, or `absent` where the key is not there.
     #[tactic(auto, unfolding(crate::specs::Keys::whole_or))]
     pub(crate) fn whole_or(
         &self,
@@ -65,7 +65,7 @@ impl Section<'_> {
         }
     }
 
-    /// The whole number of a key, if it is there.
+    /// The whole number of a key, if the key is there.
     #[tactic(auto, unfolding(crate::specs::Keys::whole_if_any))]
     pub(crate) fn whole_if_any(
         &self,
@@ -100,7 +100,7 @@ impl Section<'_> {
         }
     }
 
-    /// The file of a required key.
+    /// The file name of a required key.
     #[tactic(auto, unfolding(crate::specs::Keys::file_text))]
     pub(crate) fn file_text(&self, alloc: Global, key: &str) -> Result<Text, JobError>
         ensures is { Gives (λ t. t) result (file_text key.now (entries_of self.now)) }

@@ -1,7 +1,7 @@
 //! The laws of reading a job. A call does nothing; what it ensures is the law.
 ghost use Rattle.job_file.specs.Laws.{AcceptsByRules, ReportsFirstBroken};
 
-/// The law of the jobs that [`read_job`](crate::read_job) takes: every rule holds, and the values
+/// The law of the jobs that [`read_job`](crate::read_job) accepts: every rule holds, and the values
 /// are those of the keys.
 pub fn acceptance()
     ensures { AcceptsByRules }

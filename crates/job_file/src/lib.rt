@@ -1,4 +1,4 @@
-//! Job files: a job in TOML, read to its first fault.
+//! Job files in TOML: a job is read and its curves are found, or its first fault is reported.
 #![tactic(auto)]
 
 mod arrays;

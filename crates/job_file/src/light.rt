@@ -33,7 +33,7 @@ fn light(alloc: Global, table: &Section) -> Result<JobLight, JobError>
     ensures is { Gives (λ l. l) result (light (entries_of table.now)) }
     ensures range { IfOk result IsLight }
 {
-    table.only(&["weights", "tolerance", "l10", "c10"])?;
+    table.only_keys(&["weights", "tolerance", "l10", "c10"])?;
     let weights = table.file_text(alloc, "weights")?;
     let tolerance = table.whole("tolerance", 0, 100_000)?;
     let l10 = table.whole_or("l10", 1, 100, 20)?;
@@ -46,7 +46,7 @@ fn light(alloc: Global, table: &Section) -> Result<JobLight, JobError>
     })
 }
 
-/// Reads the light after those before it.
+/// Reads the next light, after those in `before`.
 fn next_light(alloc: Global, before: &[JobLight], table: &Table) -> Result<JobLight, JobError>
     requires { length before.now ≤ 4 }
     ensures is { Gives (λ l. l) result (next_light before.now (table_view table.now)) }
@@ -60,7 +60,7 @@ fn next_light(alloc: Global, before: &[JobLight], table: &Table) -> Result<JobLi
     light(alloc, &Section { place, table })
 }
 
-/// Reads the lights in turn.
+/// Reads the lights in order.
 pub(crate) fn lights(alloc: Global, tables: &[&Table]) -> Result<ArrayVec<JobLight, 4>, JobError>
     requires { length tables.now ≤ 4 }
     ensures is { Gives (λ v. v.items) result

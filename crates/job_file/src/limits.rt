@@ -41,7 +41,8 @@ pub(crate) fn grid_of(dyes: &[JobDye]) -> Grid
     Grid { dyes: costs }
 }
 
-/// The number of the first dye of a name, from 1: one more than there are dyes where none has it.
+/// The number of the first dye with a name, from 1, or one more than the number of dyes where no
+/// dye has it.
 fn number_of(dyes: &[JobDye], name: &str) -> u8
     requires { length dyes.now ≤ 12 }
     ensures { result ≡ number_of dyes.now name.now }
@@ -93,7 +94,7 @@ pub(crate) fn most_steps(dyes: &[JobDye]) -> Steps
     steps
 }
 
-/// The limits of a job, over a bath without dye.
+/// The limits of a job, for a bath without dye.
 pub(crate) fn limits_of(job: &Job) -> Limits
     ensures { limits_view result ≡ limits_of (job_view job.now) }
 {

@@ -15,7 +15,7 @@ use arrayvec::ArrayVec;
 use std::alloc::Global;
 use toml::Table;
 
-/// Two dyes that may not stand together, by their names.
+/// Two dyes that may not be used together, by their names.
 #[derive(Debug, Default, Drop)]
 pub struct JobPair {
     pub a: Text,
@@ -28,7 +28,7 @@ fn pair(alloc: Global, dyes: &[JobDye], table: &Section) -> Result<JobPair, JobE
     ensures is { Gives (λ p. p) result (pair dyes.now (entries_of table.now)) }
     ensures names { IfOk result (IsPair dyes.now) }
 {
-    table.only(&["a", "b"])?;
+    table.only_keys(&["a", "b"])?;
     let a = table.name(alloc, "a")?;
     let b = table.name(alloc, "b")?;
     let known = has_dye(dyes, a.as_str()) && has_dye(dyes, b.as_str());
@@ -39,7 +39,7 @@ fn pair(alloc: Global, dyes: &[JobDye], table: &Section) -> Result<JobPair, JobE
     Ok(JobPair { a, b })
 }
 
-/// Reads the pair after those before it.
+/// Reads the next pair, after those in `before`.
 fn next_pair(
     alloc: Global,
     dyes: &[JobDye],
@@ -58,7 +58,7 @@ fn next_pair(
     pair(alloc, dyes, &Section { place, table })
 }
 
-/// Reads the pairs in turn.
+/// Reads the pairs in order.
 pub(crate) fn pairs(
     alloc: Global,
     dyes: &[JobDye],

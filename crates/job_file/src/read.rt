@@ -24,7 +24,7 @@ pub(crate) const JOB_PLACE: Place = Place {
     sub: 0,
 };
 
-/// The table that a TOML document writes.
+/// The table of a TOML document.
 fn document(alloc: Global, bytes: &[u8]) -> Result<Table, JobError>
     ensures { Gives table_view result (or_fault job_place JobRule.NotToml (tree_of bytes.now)) }
 {
@@ -69,7 +69,7 @@ fn job(alloc: Global, rule: BatchRule, table: &Section) -> Result<Job, JobError>
     })
 }
 
-/// Reads a job of at most 1,000,000 bytes: its values, or its first fault with its place.
+/// Reads a job: its values, or its first fault with its place.
 #[tactic(auto, unfolding(crate::specs::Job::job_of))]
 pub fn read_job(alloc: Global, bytes: &[u8], batch: BatchRule) -> Result<Job, JobError>
     ensures { Gives job_view result (job_of batch bytes.now) }

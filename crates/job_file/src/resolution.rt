@@ -21,7 +21,7 @@ use crate::strength::is_too_strong;
 use spectral_tables::{Curve, CurveBook, Weights};
 use std::alloc::Global;
 
-/// The cloth of the batch, if there is one.
+/// The curve of the cloth of the batch, if there is one.
 fn batch_curve(book: &CurveBook, batch: &Option<JobBatch>) -> Result<Option<Curve>, JobError>
     ensures is { Gives (λ c. c) result
         (if_there (λ b. curve_of book.now batch_place b.curve) batch.now) }
@@ -49,8 +49,9 @@ fn base_curve<'a>(substrate: &'a Curve, batch: &'a Option<Curve>) -> &'a Curve
     }
 }
 
-/// Finds the curves of a job in the curves of its file, and its dyes, its grid and its limits, or
-/// the first name without a curve. The weights are those of its lights, in their order.
+/// Finds the curves of a job among those of its curve file, and from them its calibrated dyes, its
+/// grid and its limits. Else the result is the first fault: a name without a curve, or dyes that
+/// are too strong. The weights are those of the lights, in their order.
 #[tactic(auto, unfolding(crate::specs::Resolve::resolved_job))]
 pub fn resolve(
     alloc: Global,

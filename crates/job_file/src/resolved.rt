@@ -16,19 +16,19 @@ use spectral_tables::Curve;
 pub struct Resolved {
     /// The job as its file gives it.
     pub job: Job,
-    /// The undyed cloth.
+    /// The curve of the undyed cloth.
     pub substrate: Curve,
-    /// The cloth that is to be matched.
+    /// The curve of the cloth that is to be matched.
     pub standard: Curve,
     /// The dyes, calibrated on the undyed cloth, in the order of the job.
     pub dyes: DyeList,
     /// What the dyes cost, and how much of each may be weighed out.
     pub grid: Grid,
-    /// What a recipe may be, over a bath without dye.
+    /// The limits of a recipe, for a bath without dye.
     pub limits: Limits,
     /// The weights of each light.
     pub weights: WeightsList,
-    /// The cloth of the batch that is to be corrected, if there is one.
+    /// The curve of the batch that is to be corrected, if there is one.
     pub batch: Option<Curve>,
 
     pub ghost kept: { IsResolved (record {

@@ -7,12 +7,12 @@ ghost use Rattle.std.specs.Str.{bytes_eq};
 ghost use Rattle.toml.specs.Data.{get_member};
 ghost use Rattle.toml.specs.View.{table_view, view};
 ghost use Rattle.job_file.specs.Faults.{Gives};
-ghost use Rattle.job_file.specs.Keys.{entries_of, has_only, only, required};
+ghost use Rattle.job_file.specs.Keys.{entries_of, has_only, only_keys, required};
 
 use crate::fault::{JobError, JobRule, Place};
 use toml::{Table, Value};
 
-/// A table of a job, and where it stands.
+/// A table of a job, and its place.
 #[derive(Clone, Copy, Drop)]
 pub(crate) struct Section<'a> {
     pub place: Place,
@@ -40,9 +40,10 @@ fn has_only(keys: &[&str], table: &Table) -> bool
 }
 
 impl<'a> Section<'a> {
-    /// That the table has no keys but these.
-    pub(crate) fn only(&self, keys: &[&str]) -> Result<(), JobError>
-        ensures { Gives (λ x. x) result (only (map (λ k. k.now) keys.now) (entries_of self.now)) }
+    /// Checks that the table has no keys but these.
+    pub(crate) fn only_keys(&self, keys: &[&str]) -> Result<(), JobError>
+        ensures { Gives (λ x. x) result
+            (only_keys (map (λ k. k.now) keys.now) (entries_of self.now)) }
     {
         self.place
             .ensure(has_only(keys, self.table), JobRule::UnknownKey)

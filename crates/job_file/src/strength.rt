@@ -9,7 +9,7 @@ use ks_curves::Dye;
 use mix_model::{BaseCurve, mixture_ks};
 use spectral_tables::Curve;
 
-/// The strongest K/S of a recipe of all dyes at their most steps.
+/// The highest K/S that a recipe of all dyes at their most steps may have.
 const STRONGEST: i128 = 1_000_000;
 
 /// Whether at some wavelength the K/S of these steps of the dyes on a cloth is above 1,000,000.

@@ -3,7 +3,7 @@
 ghost use Rattle.std.specs.Prelude.{◌≡◌, ◌≤◌, IfOk, is_some, vec_len, option_map};
 ghost use Rattle.toml.specs.View.{table_view};
 ghost use Rattle.job_file.specs.Faults.{Gives};
-ghost use Rattle.job_file.specs.Keys.{entries_of, only};
+ghost use Rattle.job_file.specs.Keys.{entries_of, only_keys};
 ghost use Rattle.job_file.specs.Top.{IsHead, has_key, head, inner, job_keys, keys, needs_batch, takes_batch, version_of};
 ghost use Rattle.job_file.specs.TopView.{inner_view};
 
@@ -14,7 +14,7 @@ use crate::text::Text;
 use std::alloc::Global;
 use toml::Table;
 
-/// Whether a job may have a batch: not, it must, or either.
+/// Whether a job must not, must, or may have a batch.
 #[derive(Clone, Copy, Debug, PartialEq, Eq)]
 pub enum BatchRule {
     /// A batch is an unknown key.
@@ -74,7 +74,7 @@ fn has_key(table: &Section, key: &str) -> bool
     table.get(key).is_some()
 }
 
-/// The version of a job, where it is one that is known.
+/// The version of a job, if it is a known one.
 fn version_of(table: &Section) -> Option<u64>
     ensures { result ≡ version_of (entries_of table.now).members }
 {
@@ -83,11 +83,11 @@ fn version_of(table: &Section) -> Option<u64>
     natural_in(1, 1, number)
 }
 
-/// That a job has no keys but those of a job.
+/// Checks that a table has no keys but those of a job.
 fn only_job_keys(table: &Section) -> Result<(), JobError>
-    ensures { Gives (λ x. x) result (only job_keys (entries_of table.now)) }
+    ensures { Gives (λ x. x) result (only_keys job_keys (entries_of table.now)) }
 {
-    table.only(&[
+    table.only_keys(&[
         "version",
         "curves",
         "substrate",
@@ -104,7 +104,7 @@ fn only_job_keys(table: &Section) -> Result<(), JobError>
     ])
 }
 
-/// That the version is 1, and that no key is unknown.
+/// Checks that the version is 1, and that no key is unknown.
 #[tactic(auto, unfolding(crate::specs::Top::keys))]
 pub(crate) fn keys(rule: BatchRule, table: &Section) -> Result<(), JobError>
     ensures { Gives (λ x. x) result (keys rule (entries_of table.now)) }

@@ -1,4 +1,4 @@
--- What the files and the budget of an accepted job are.
+-- The files and the budget of an accepted job.
 use Rattle.std.proofs.Common.{◌≡◌, ◌≤◌, ◌&&◌, ◌==◌, ℕ, ℤ, pos, negsuc, Bool, true, false, Option, Some, None, Ok, List, [], ◌∷◌, All, refl, subst, arith}
 use Rattle.std.specs.Prelude.{nat_le, not, codes, length, if◌then◌else◌}
 use Rattle.std.specs.List.{ends_with}
@@ -13,7 +13,7 @@ use Rattle.job_file.specs.Batch.{batch_of}
 use Rattle.job_file.specs.Dye.{next_dye}
 use Rattle.job_file.specs.Faults.{or_fault}
 use Rattle.job_file.specs.Job.{Values, job_at, job_of, job_place, tree_of}
-use Rattle.job_file.specs.Keys.{Entries, file_text, name, natural_in, only, or_else, required, whole, whole_if_any, whole_in, whole_or}
+use Rattle.job_file.specs.Keys.{Entries, file_text, name, natural_in, only_keys, or_else, required, whole, whole_if_any, whole_in, whole_or}
 use Rattle.job_file.specs.Light.{light, next_light}
 use Rattle.job_file.specs.Pair.{next_pair}
 use Rattle.job_file.specs.Texts.{is_file_text}
@@ -88,7 +88,7 @@ head_fits t v e =
 light_is_no_cert : (t : Entries) (l : JobLight) → light t ≡ Ok l → IsNoCert l.weights
 unfolding light
 light_is_no_cert t l e =
-    let others = then_ok (only (codes "weights" ∷ codes "tolerance" ∷ codes "l10" ∷ codes "c10" ∷ []) t) _ l e in
+    let others = then_ok (only_keys (codes "weights" ∷ codes "tolerance" ∷ codes "l10" ∷ codes "c10" ∷ []) t) _ l e in
     let weights = bind_ok (file_text (codes "weights") t) _ l others.1 in
     let tolerance = bind_ok (whole (codes "tolerance") 0 100000 t) _ l weights.2 in
     let l10 = bind_ok (whole_or (codes "l10") 1 100 20 t) _ l tolerance.2 in

@@ -1,4 +1,4 @@
--- A job that one rule of its batch accepts is accepted where a batch may be in it or not.
+-- A job that is accepted by any rule for its batch is also accepted where a batch may be there or not.
 use Rattle.std.proofs.Common.{◌≡◌, Ok, refl}
 use Rattle.std.specs.Prelude.{◌||◌, codes, not}
 use Rattle.job_file.specs.declared.fault.JobRule.TheVariants.{MissingKey, NotToml, NotVersion1}
@@ -7,7 +7,7 @@ use Rattle.job_file.specs.declared.top.BatchRule.TheVariants.{Either}
 use Rattle.job_file.specs.Arrays.{tables, tables_or_none}
 use Rattle.job_file.specs.Faults.{ensure, or_fault}
 use Rattle.job_file.specs.Job.{job_at, job_of, job_place, tree_of}
-use Rattle.job_file.specs.Keys.{Entries, only}
+use Rattle.job_file.specs.Keys.{Entries, only_keys}
 use Rattle.job_file.specs.Top.{Inner, has_key, head, inner, job_keys, keys, needs_batch, version_of}
 use Rattle.job_laws.specs.Laws.{AcceptsEither, TableAcceptsEither}
 use Rattle.job_laws.proofs.Steps.{bind_first, bind_other, then_ok, then_other}
@@ -15,7 +15,7 @@ use Rattle.job_laws.proofs.Steps.{bind_first, bind_other, then_ok, then_other}
 keys_either : (rule : BatchRule) (t : Entries) → keys rule t ≡ Ok tt → keys Either t ≡ Ok tt
 unfolding keys
 keys_either rule t h =
-    bind_other (or_fault t.place NotVersion1 (version_of t.members)) _ _ tt h (λ version e. then_other (only job_keys t) (only job_keys t) _ _ tt e (λ others. others) (λ batch. refl))
+    bind_other (or_fault t.place NotVersion1 (version_of t.members)) _ _ tt h (λ version e. then_other (only_keys job_keys t) (only_keys job_keys t) _ _ tt e (λ others. others) (λ batch. refl))
 
 inner_either : (rule : BatchRule) (t : Entries) (found : Inner) → inner rule t ≡ Ok found → inner Either t ≡ Ok found
 unfolding inner

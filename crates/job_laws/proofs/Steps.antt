@@ -11,7 +11,7 @@ err_ok fault x h = cc
 pub ok_same : {A : Type 0} (x y : A) → ◌≡◌ {A = Result A JobFault} (Ok x) (Ok y) → x ≡ y
 ok_same x y h = cc
 
--- what was read first, and what was read then
+-- what the first of two readings read, and what the second did
 pub bind_ok : {A B : Type 0} (r : Result A JobFault) (f : A → Result B JobFault) (y : B) → (r >>= f) ≡ Ok y → (x : A) × (r ≡ Ok x) × (f x ≡ Ok y)
 bind_ok (Ok x) f y h = (x, refl, h)
 bind_ok (Err fault) f y h = absurd (err_ok fault y h)
@@ -20,24 +20,24 @@ pub then_ok : {B : Type 0} (r : Result (Unit {0}) JobFault) (next : Result B Job
 then_ok (Ok x) next y h = (refl, h)
 then_ok (Err fault) next y h = absurd (err_ok fault y h)
 
--- a reading that goes on with another step
+-- a reading whose second step is replaced by another
 pub bind_other : {A B : Type 0} (r : Result A JobFault) (f g : A → Result B JobFault) (y : B) → (r >>= f) ≡ Ok y → ((x : A) → f x ≡ Ok y → g x ≡ Ok y) → (r >>= g) ≡ Ok y
 bind_other (Ok x) f g y h other = other x h
 bind_other (Err fault) f g y h other = absurd (err_ok fault y h)
 
--- a reading that begins with another step
+-- a reading whose first step is replaced by another
 pub bind_first : {A B : Type 0} (r s : Result A JobFault) (f : A → Result B JobFault) (y : B) → (r >>= f) ≡ Ok y → ((x : A) → r ≡ Ok x → s ≡ Ok x) → (s >>= f) ≡ Ok y
 bind_first r s f y h first =
     let a = bind_ok r f y h in
     subst (λ z. (z >>= f) ≡ Ok y) (sym (first a.0 a.1)) a.2
 
--- a reading that begins with another rule
+-- a reading whose first rule is replaced by another
 pub then_other : {B : Type 0} (r s : Result (Unit {0}) JobFault) (next last : Result B JobFault) (y : B) → (r >> next) ≡ Ok y → (r ≡ Ok tt → s ≡ Ok tt) → (next ≡ Ok y → last ≡ Ok y) → (s >> last) ≡ Ok y
 then_other r s next last y h first other =
     let a = then_ok r next y h in
     subst (λ z. (z >> last) ≡ Ok y) (sym (first a.0)) (other a.1)
 
--- What holds of each item that is read holds of all
+-- what holds of each item that is read, whatever was read before, holds of all
 pub each_holds : {A B : Type 0} (P : A → Type 0) (read : List A → B → Result A JobFault)
     → ((before : List A) (x : B) (y : A) → read before x ≡ Ok y → P y)
     → (before : List A) (xs : List B) (ys : List A) → All P before → each read before xs ≡ Ok ys → All P ys

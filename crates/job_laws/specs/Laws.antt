@@ -6,7 +6,8 @@ use Rattle.job_file.specs.declared.top.BatchRule.TheVariants.{Either}
 use Rattle.job_file.specs.Job.{Values, job_at, job_of}
 use Rattle.job_file.specs.Keys.{Entries}
 
--- A text that is accepted as a job, whatever the rule of its batch, is accepted with the same values where a batch may be in it or not.
+-- A text that is accepted as a job by any rule for its batch is also accepted, with the same values, where a batch may be there
+-- or not.
 abbrev pub AcceptsEither : Type 0
 AcceptsEither = (rule : BatchRule) (text : List ℕ) (v : Values) → job_of rule text ≡ Ok v → job_of Either text ≡ Ok v
 
@@ -18,7 +19,7 @@ TableAcceptsEither = (rule : BatchRule) (t : Entries) (v : Values) → job_at ru
 abbrev pub IsNoCert : List ℕ → Type 0
 IsNoCert name = ends_with ◌==◌ name (codes ".cert") ≡ false
 
--- The file of a job's curves and the files of its lights' weights are not named as certificates are.
+-- The names of a job's curve file and of the weight files of its lights do not end with `.cert`.
 abbrev pub FilesAreNoCerts : Type 0
 FilesAreNoCerts =
     (rule : BatchRule) (text : List ℕ) (v : Values) → job_of rule text ≡ Ok v → IsNoCert v.head.curves × All (λ l. IsNoCert l.weights) v.light

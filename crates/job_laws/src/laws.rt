@@ -2,8 +2,8 @@
 
 ghost use Rattle.job_laws.specs.Laws.{AcceptsEither, BudgetFits, FilesAreNoCerts, TableAcceptsEither};
 
-/// A job that is accepted, whatever the rule of its batch, is accepted with the same values where
-/// a batch may be in it or not.
+/// A job that is accepted by any rule for its batch is also accepted, with the same values, by the
+/// rule that a batch may be there or not.
 pub fn batch_rule()
     ensures text { AcceptsEither }
     ensures table { TableAcceptsEither }

@@ -1,5 +1,5 @@
-//! The laws of the jobs that are accepted: each is accepted, too, where a batch may be in it or
-//! not, none of its files is named as a certificate, and its budget has a range.
+//! The laws of the jobs that are accepted: each is also accepted where a batch may be there or not,
+//! no name of its files ends with `.cert`, and its budget is in a range.
 #![tactic(auto)]
 
 pub mod laws;

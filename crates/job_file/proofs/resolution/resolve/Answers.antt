@@ -8,7 +8,7 @@ use Rattle.job_file.proofs.ResolveFacts.{IsCalibrated, are_calibrated, few_dyes,
 use Rattle.job_file.proofs.resolution.resolve.Goals as goal
 use Rattle.job_file.proofs.resolution.resolve.Goals.{After-as_slice-3}
 
--- the dyes are those of the job
+-- the calibrated dyes are those of the job
 calibrated : (c : After-as_slice-3) → AllZip (IsCalibrated c.in_ok-substrate.substrate) c.in_ok-dyes.dyes.items c.args.job.dye.items
 calibrated c =
     are_calibrated c.args.book.now c.in_ok-substrate.substrate c.args.job.dye.items c.in_ok-dyes.dyes.items
