@@ -1,4 +1,4 @@
-//! What the dyes of a job are added to.
+//! The cloth that the dyes of a job are added to.
 
 ghost use Rattle.std.specs.Prelude.{◌≡◌};
 ghost use Rattle.job_file.specs.Resolve.{base_curve};

@@ -1,4 +1,5 @@
-//! The correction of a batch: what dyes are added to, and the limits of a recipe over a bath.
+//! The correction of a batch: the cloth that dyes are added to, and the limits of a recipe that is
+//! added to a bath.
 #![tactic(auto)]
 
 mod base;

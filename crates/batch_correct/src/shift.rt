@@ -1,4 +1,4 @@
-//! The limits of a recipe over what is in the bath.
+//! The limits of a recipe that is added to a bath.
 
 ghost use Rattle.std.specs.Prelude.{◌≡◌};
 ghost use Rattle.price_grid.specs.Limits.{limits_view};
@@ -18,7 +18,7 @@ fn copy_of_pairs(pairs: &ArrayVec<(u8, u8), 66>) -> ArrayVec<(u8, u8), 66>
     copy
 }
 
-/// The same limits over a bath with these steps of each dye.
+/// The same limits, for a bath with these steps of each dye.
 pub fn shift_limits(limits: &Limits, bath: &Steps) -> Limits
     ensures { limits_view result ≡ with_new_bath (limits_view limits.now) bath.now.items }
 {

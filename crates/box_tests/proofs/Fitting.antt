@@ -1,4 +1,4 @@
--- Small certificates keep what a certificate keeps.
+-- What holds of every certificate holds of the small ones of the tests.
 use Rattle.std.proofs.Common.{◌≡◌, ◌<◌, ◌≤◌, ◌&&◌, ℕ, zero, suc, List, [], ◌∷◌, Bool, true, false, nat_le, length, get_or, refl, sym, subst, arith}
 use Rattle.std.specs.List.{All, list_all}
 use Rattle.std.proofs.lemmas.Bool.{and_parts, false≢true}

@@ -7,6 +7,6 @@ up_to_itself : (steps : List ℕ) → IsUpTo steps steps
 up_to_itself [] = tt
 up_to_itself (n ∷ steps) = (omega arith, up_to_itself steps)
 
--- a box that is another lies inside it
+-- of two equal boxes, each lies inside the other
 pub same_inside : (b c : Span) → b ≡ c → IsInside b c
 same_inside b c e = subst (λ d. IsInside b d) e (up_to_itself b.lo, up_to_itself b.hi)

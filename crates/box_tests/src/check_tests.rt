@@ -11,7 +11,7 @@ use price_grid::Steps;
 use std::alloc::{AllocError, Global};
 use std::test::Fail;
 
-// The recipe of so many steps.
+// The recipe of `n` steps.
 fn recipe(n: u16) -> Steps
     ensures { result.items ≡ n ∷ [] }
 {
@@ -31,8 +31,8 @@ fn cert_of(claim: Claim, listed: Vec<Steps>, lines: Vec<Line>) -> Cert
     }
 }
 
-// What comes of a check over recipes of 0 to 4 steps, where fewer than `first` fail and more than
-// `last` are excluded; with how many boxes were judged.
+// The result of a check over recipes of 0 to 4 steps, where those of fewer than `first` fail and
+// those of more than `last` are excluded, and the number of boxes that were judged.
 fn checked(
     alloc: Global,
     first: u16,
@@ -59,7 +59,7 @@ fn split(mid: u16) -> Line
     Line::Split { dye: 1, mid }
 }
 
-// Another tree than the one that the search would write.
+// The tree is not the one that the search would write.
 #[test]
 fn accepts_any_tree(rt: HostRuntime) -> Result<(), Fail> {
     let alloc = rt.alloc();

@@ -5,8 +5,9 @@ ghost use Rattle.std.specs.Prelude.{◌≤◌};
 use box_core::{BoxR, Evals, Judged, Landscape};
 use price_grid::{Key, Steps, copy_of};
 
-/// Recipes of one dye, each step of which costs 1. Under the one light those with fewer steps than
-/// `first` fail and the others pass; the limits 3 and 5 exclude those with more steps than `last`.
+/// Recipes of one dye, each step of which costs 1. There is one light: recipes with fewer steps
+/// than `first` fail and the others pass. The limits 3 and 5 exclude those with more steps than
+/// `last`.
 #[derive(Drop)]
 pub struct Ladder {
     /// The most steps of the dye.

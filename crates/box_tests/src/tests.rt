@@ -4,7 +4,7 @@ use box_search::search;
 use price_grid::Steps;
 use std::test::Fail;
 
-// The box between two corners, where they are in order.
+// The box between two corners, if they are in order.
 fn box_of(lo: [u16; 2], hi: [u16; 2]) -> Option<BoxR> {
     if lo[0] > hi[0] || lo[1] > hi[1] {
         return None;
@@ -44,7 +44,8 @@ fn splits_boxes(rt: HostRuntime) -> Result<(), Fail> {
     Ok(())
 }
 
-// What is known of the top of a landscape, and of the halves that it is split into.
+// The judgement of the box of all recipes, the cost of its lower corner, and whether light 1 fails
+// on it or limit 3 excludes it.
 fn judge_top<L: Landscape>(land: &L, meter: &mut L::Meter) -> (Judged, u64, bool) {
     let top = land.top();
     let key = corner_key(land, &top);
@@ -74,7 +75,7 @@ fn judges_a_ladder(rt: HostRuntime) -> Result<(), Fail> {
     Ok(())
 }
 
-// The first dye is split after so many steps.
+// The line that splits a box after `mid` steps of the first dye.
 fn split_after(mid: u16) -> CertLine {
     CertLine::Split { dye: 1, mid }
 }

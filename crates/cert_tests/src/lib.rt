@@ -1,5 +1,5 @@
-//! Tests of the text of certificates through its public calls, hostile texts among them. They stand
-//! in a crate above, since a crate with tests is proved twice.
+//! Tests of the text of certificates through public calls, hostile texts among them. They are in a
+//! crate of their own, since a crate with tests is proved twice.
 #![tactic(auto)]
 
 #[cfg(test)]

@@ -4,7 +4,8 @@ use arrayvec::ArrayVec;
 use box_cert::{put_line, put_recipe, read_line, read_recipe};
 use std::test::Fail;
 
-// Whether a text is the spelling of a line of a tree; then that spelling is written back.
+// Reads a text as a line of a tree, if it is one. The result is whether the line, written again, is
+// the same text.
 fn is_line(text: &[u8]) -> Option<bool> {
     let line = read_line(text)?;
     let mut again = ArrayVec::new();
@@ -12,7 +13,7 @@ fn is_line(text: &[u8]) -> Option<bool> {
     Some(again.as_slice() == text)
 }
 
-// The same of a recipe of two dyes.
+// The same, for a recipe of two dyes.
 fn is_recipe(text: &[u8]) -> Option<bool> {
     let steps = read_recipe(text, 2)?;
     let mut again = ArrayVec::new();

@@ -8,7 +8,7 @@ use cert_check::{Checked, check};
 use std::alloc::{AllocError, Global};
 use std::test::Fail;
 
-// A claim that nothing passes, and then so many bytes `s`.
+// The first lines of a certificate, which claims that nothing passes, and then `count` bytes `s`.
 fn long_line(alloc: Global, count: u32) -> Result<Vec<u8>, AllocError> {
     let mut text = Vec::new(alloc);
     text.extend_from_slice(b"dye-cert 1\nnone\nundecided 0\n")?;
@@ -29,7 +29,7 @@ fn refuses_a_long_line(rt: HostRuntime) -> Result<(), Fail> {
     Ok(())
 }
 
-// A floor of 0, and a tree that splits one recipe off each time.
+// A certificate with a floor of 0, and a tree in which each split separates one recipe.
 fn deep_tree(alloc: Global) -> Result<String, AllocError> {
     let mut text = format!(in alloc; "dye-cert 1\nfloor 0\nundecided 0\n")?;
     for i in 0..4000u32 {

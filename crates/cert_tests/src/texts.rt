@@ -6,7 +6,7 @@ use shelf_io::{MemShelf, Shelf};
 use std::alloc::{AllocError, Global};
 use std::test::Fail;
 
-// The certificate that a text spells, of recipes of two dyes.
+// The certificate that a text spells, for recipes of two dyes.
 fn read(alloc: Global, text: &[u8]) -> Result<Cert, CertError> {
     if text.len() > 64_000_000 {
         return Err(CertError::Memory);
@@ -23,8 +23,8 @@ pub(crate) fn fault_of(alloc: Global, text: &[u8]) -> Result<Option<CertFault>, 
     }
 }
 
-// The header and these lines.
-fn behind_header(alloc: Global, lines: &str) -> Result<String, AllocError> {
+// The text of the header and these lines.
+fn with_header(alloc: Global, lines: &str) -> Result<String, AllocError> {
     format!(in alloc; "dye-cert 1\n{lines}")
 }
 
@@ -107,7 +107,7 @@ fn refuses_lines(rt: HostRuntime) -> Result<(), Fail> {
         ("none\nundecided 0\nd\n\n", 5, CertRule::Left),
         ("none\nundecided 0\nd\n ", 5, CertRule::Left),
     ] {
-        let text = behind_header(rt.alloc(), lines)?;
+        let text = with_header(rt.alloc(), lines)?;
         let fault = fault_of(rt.alloc(), text.as_bytes())?;
         assert_eq!(rt; fault, Some(CertFault { line, rule }), "{lines}");
     }
@@ -123,7 +123,7 @@ fn writes_what_it_reads(rt: HostRuntime) -> Result<(), Fail> {
         "match 0 1\nundecided 0\ns 1 0\ns 2 0\nf 1\np\nd\n",
         "none\nundecided 2\n0 0\n4000 4000\ns 12 4000\nu\nx 1\n",
     ] {
-        let text = behind_header(rt.alloc(), lines)?;
+        let text = with_header(rt.alloc(), lines)?;
         let cert = read(rt.alloc(), text.as_bytes())?;
         let mut shelf = MemShelf::empty(rt.alloc(), 200, 1)?;
         assert_eq!(rt; write_cert(&cert, &mut shelf, "cert"), Ok(()), "{lines}");
@@ -135,7 +135,7 @@ fn writes_what_it_reads(rt: HostRuntime) -> Result<(), Fail> {
 #[test]
 fn reads_each_part(rt: HostRuntime) -> Result<(), Fail> {
     let lines = "match 7 10\nundecided 1\n4000 0\ns 2 10\nx 5\ns 1 0\nf 4\np\n";
-    let cert = read(rt.alloc(), behind_header(rt.alloc(), lines)?.as_bytes())?;
+    let cert = read(rt.alloc(), with_header(rt.alloc(), lines)?.as_bytes())?;
     assert!(rt;
         matches!(&cert.claim, Claim::Match(steps) if steps.as_slice() == [7, 10].as_slice())
     );

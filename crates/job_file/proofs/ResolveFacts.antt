@@ -140,24 +140,24 @@ number_most : (xs : List JobDye) (name : List ℕ) → has_dye xs name ≡ true 
 number_most [] name h = cc
 number_most (x ∷ xs) name h = let le = within_one_more (bytes_eq x.name name) (has_dye xs name) (number_of xs name) (length xs) h (number_most xs name) in omega (arith, le)
 
-apart_by : (p q r s : Bool) (k l : ℕ) → (p ≡ true → q ≡ true → ⊥) → 1 ≤ k → 1 ≤ l → p || r ≡ true → q || s ≡ true → (r ≡ true → s ≡ true → k ≡ l → ⊥)
+differ_by : (p q r s : Bool) (k l : ℕ) → (p ≡ true → q ≡ true → ⊥) → 1 ≤ k → 1 ≤ l → p || r ≡ true → q || s ≡ true → (r ≡ true → s ≡ true → k ≡ l → ⊥)
     → (if p then 1 else (k + 1)) ≡ (if q then 1 else (l + 1)) → ⊥
-apart_by true true r s k l first a b h g later e = first refl refl
-apart_by true false r s k l first a b h g later e = omega (arith, a, b, e)
-apart_by false true r s k l first a b h g later e = omega (arith, a, b, e)
-apart_by false false r s k l first a b h g later e = later h g (omega (arith, e))
+differ_by true true r s k l first a b h g later e = first refl refl
+differ_by true false r s k l first a b h g later e = omega (arith, a, b, e)
+differ_by false true r s k l first a b h g later e = omega (arith, a, b, e)
+differ_by false false r s k l first a b h g later e = later h g (omega (arith, e))
 
 not_both : (x a b : List ℕ) → bytes_eq a b ≡ false → bytes_eq x a ≡ true → bytes_eq x b ≡ true → ⊥
-not_both x a b apart h g =
+not_both x a b unlike h g =
     let first : x ≡ a = (bytes_eq-Decides x a).0 h in
     let second : x ≡ b = (bytes_eq-Decides x b).0 g in
     let same : bytes_eq a b ≡ true = (bytes_eq-Decides a b).1 (sym first ∙ second) in
     cc
 
 numbers_differ : (xs : List JobDye) (a b : List ℕ) → bytes_eq a b ≡ false → has_dye xs a ≡ true → has_dye xs b ≡ true → number_of xs a ≢ number_of xs b
-numbers_differ [] a b apart h g e = cc
-numbers_differ (x ∷ xs) a b apart h g e =
-    apart_by (bytes_eq x.name a) (bytes_eq x.name b) (has_dye xs a) (has_dye xs b) (number_of xs a) (number_of xs b) (not_both x.name a b apart) (number_least xs a) (number_least xs b) h g (numbers_differ xs a b apart) e
+numbers_differ [] a b unlike h g e = cc
+numbers_differ (x ∷ xs) a b unlike h g e =
+    differ_by (bytes_eq x.name a) (bytes_eq x.name b) (has_dye xs a) (has_dye xs b) (number_of xs a) (number_of xs b) (not_both x.name a b unlike) (number_least xs a) (number_least xs b) h g (numbers_differ xs a b unlike) e
 
 length-grid : (xs : List JobDye) → length (map cost_of_dye xs) ≡ length xs
 length-grid xs = length-map xs cost_of_dye

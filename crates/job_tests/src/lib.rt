@@ -1,5 +1,5 @@
-//! Tests of job files through their public calls. They stand in a crate above, as the proof of
-//! `job_file` takes longest and a crate with tests is proved twice.
+//! Tests of job files through public calls. They are in a crate of their own, as a crate with tests
+//! is proved twice, and the proof of `job_file` takes long.
 #![tactic(auto)]
 
 #[cfg(test)]

@@ -10,7 +10,7 @@ const DYE: &str = "[[dye]]\nname = \"V\"\nprice = 3\nstep = 10\nmost = 1\n";
 
 const DYEING: &str = "[[dye.dyeing]]\nunits = 10\ncurve = \"p30\"\n";
 
-// A job with a dye U and a second dye, of these parts.
+// Reads a job of these parts, in which a dye U comes before the dye of the parts.
 fn read(alloc: Global, parts: [&str; 5], batch: BatchRule) -> Result<Job, JobError> {
     let [top, light, dye, dyeing, end] = parts;
     let first = "[[dye]]\nname = \"U\"\nprice = 3\nstep = 10\nmost = 1\n";

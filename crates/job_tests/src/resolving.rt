@@ -3,8 +3,8 @@ use spectral_tables::{CurveBook, Weights, read_curves, read_weights};
 use std::alloc::{AllocError, Global};
 use std::test::Fail;
 
-// A job over three curves of one reflectance each, with these names of its curves and this step of
-// its dye.
+// A job over three curves of one reflectance each, with these names of curves and this highest
+// number of steps of its dye.
 fn job(alloc: Global, names: [&str; 4], most: u16) -> Result<String, AllocError> {
     let [substrate, standard, dyeing, batch] = names;
     let top =
@@ -16,7 +16,7 @@ fn job(alloc: Global, names: [&str; 4], most: u16) -> Result<String, AllocError>
     )
 }
 
-// A table of one line for each wavelength, and the lines before and after them.
+// A table: the first line, a line for each wavelength, which ends with `line`, and then `end`.
 fn table(alloc: Global, head: &str, line: &str, end: &str) -> Result<String, AllocError> {
     let mut text = format!(in alloc; "{head}\n")?;
     for i in 0..31u32 {
@@ -51,7 +51,7 @@ fn fault(part: Part, item: u32, sub: u32, rule: JobRule) -> Option<JobFault> {
     })
 }
 
-// The first fault of a job over the three curves, or a refusal of its text.
+// The first fault of resolving a job over the three curves, if it has one.
 fn fault_of(alloc: Global, names: [&str; 4], most: u16) -> Result<Option<JobFault>, Fail> {
     let text = job(alloc, names, most)?;
     let book = book(alloc).ok_or("no curves")?;

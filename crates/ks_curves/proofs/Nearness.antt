@@ -1,4 +1,4 @@
--- How far apart the upper ends of K/S and of a contribution stand at a scale n and at the finer scale m * n.
+-- Bounds on the differences of the upper ends of K/S and of a contribution between a scale n and the finer scale m * n.
 use Rattle.std.proofs.Common.{◌≡◌, ◌+◌, ◌-◌, ◌*◌, ◌/◌, ◌^◌, ◌≤◌, ◌<◌, ◌≤ℤ◌, ◌+ℤ◌, ◌-ℤ◌, ◌*ℤ◌, neg_ℤ, ℕ, ℤ, pos, negsuc, List, [], ◌∷◌, All, get_or, length, refl, subst, zero-add, arith}
 use Rattle.std.specs.Prelude.{slice_index}
 use Rattle.std.specs.Int.{div_ceil, int_max}
@@ -120,8 +120,8 @@ addition_near n m substrate wave d some some' =
     let u = pos d.0 in
     let low = u *ℤ (a'.lo -ℤ b'.hi) in
     let high = u *ℤ (a'.hi -ℤ b'.lo) in
-    let apart = subtract_near m m m a.hi b.lo a'.hi b'.lo (ks_near n m (slice_index d.1 wave) some') (ks_near_low n m (slice_index substrate wave) some) in
-    let upper = further m (d.0 * (m + m)) (u *ℤ (a.hi -ℤ b.lo)) high (int_max low high) (max_right low high) (times_near m (m + m) d.0 (a.hi -ℤ b.lo) (a'.hi -ℤ b'.lo) apart) in
+    let near_difference = subtract_near m m m a.hi b.lo a'.hi b'.lo (ks_near n m (slice_index d.1 wave) some') (ks_near_low n m (slice_index substrate wave) some) in
+    let upper = further m (d.0 * (m + m)) (u *ℤ (a.hi -ℤ b.lo)) high (int_max low high) (max_right low high) (times_near m (m + m) d.0 (a.hi -ℤ b.lo) (a'.hi -ℤ b'.lo) near_difference) in
     let ordered = ends_ordered a b (ks_ordered n (slice_index d.1 wave)) (ks_ordered n (slice_index substrate wave)) in
     let lower = below_near m (d.0 * (m + m)) (u *ℤ (a.lo -ℤ b.hi)) (u *ℤ (a.hi -ℤ b.lo)) (int_max low high) (mono_left d.0 (a.lo -ℤ b.hi) (a.hi -ℤ b.lo) ordered) upper in
     either_max (λ x. IsNearAbove m (d.0 * (m + m)) x (int_max low high)) (u *ℤ (a.lo -ℤ b.hi)) (u *ℤ (a.hi -ℤ b.lo)) lower upper
@@ -164,8 +164,8 @@ numerator_near n m substrate wave ds some each =
 share_near : (m x q u : ℕ) (z z' : ℤ) → 0 < q → u ≤ q → pos 0 ≤ℤ z → pos 0 ≤ℤ z' → IsNearAbove m (u * (m + m)) z z'
     → IsNearAbove m (x * (m + m) + m) (ceil_over (z *ℤ pos x) q) (ceil_over (z' *ℤ pos x) q)
 share_near m x q u (pos a) (pos b) some under h h' near =
-    let apart : m * a ≤ b + u * (m + m) = omega (arith, ints, near) in
-    let scaled : x * (m * a) ≤ x * (b + u * (m + m)) = mul-le-mul_left x apart in
+    let near_difference : m * a ≤ b + u * (m + m) = omega (arith, ints, near) in
+    let scaled : x * (m * a) ≤ x * (b + u * (m + m)) = mul-le-mul_left x near_difference in
     let within : x * (m + m) * u ≤ x * (m + m) * q = mul-le-mul_left (x * (m + m)) under in
     ceil_near m (a * x) (b * x) (x * (m + m)) q some (omega (arith, scaled, within))
 share_near m x q u (negsuc a) z' some under h h' near = absurd (omega (arith, ints))

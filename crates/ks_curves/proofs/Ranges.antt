@@ -1,4 +1,4 @@
--- The ranges of K/S and of a contribution, and the room that each call of their evaluation has.
+-- The ranges of K/S and of a contribution, and that no call of their evaluation overflows.
 use Rattle.std.proofs.Common.{◌≡◌, ◌+◌, ◌-◌, ◌*◌, ◌^◌, ◌≤◌, ℕ, ℤ, pos, subst, sym, arith, unsigned_abs, mul-le-mul, mul-le-mul_left, mul-le-mul_right}
 use Rattle.interval_specs.specs.Ends.{Ends, magnitude_of}
 use Rattle.interval_specs.specs.Ranges.{MagnitudeUpTo, UpTo}

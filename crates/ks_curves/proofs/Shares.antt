@@ -1,4 +1,4 @@
--- A share of no units.
+-- A share of 0 units.
 use Rattle.std.proofs.Common.{◌≡◌, ◌*◌, ◌<◌, ◌∙◌, ℕ, pos, ap, sym, arith}
 use Rattle.std.proofs.Math.Nat.{zero-div}
 use Rattle.std.proofs.lemmas.Int.{ints}

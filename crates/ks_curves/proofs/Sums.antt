@@ -41,14 +41,14 @@ sum-end n substrate wave ds i sum total le so_far =
 pub sum_by-more : (f : Dyeing → ℕ) (ds : List Dyeing) (i : ℕ) (d : Dyeing) → i < length ds → d ≡ get_or ds i d → sum_by f (take (i + 1) ds) ≡ sum_by f (take i ds) + f d
 sum_by-more f ds i d lt is = ap (sum_by f) (take_more ds i d lt) ∙ sum_by_push f (take i ds) (get_or ds i d) ∙ ap (λ x. sum_by f (take i ds) + f x) (sym is)
 
--- all units together
+-- the sum of all units
 pub units_few : (count : ℕ) (ds : List Dyeing) → length ds ≤ 8 → All (IsDyeing count) ds → unit_sum ds ≤ 160000
 units_few count ds few each =
     let all = sum_by-le (λ (d : Dyeing). d.0) 20000 ds (λ k d lt. (each k d lt).units.1) in
     let m = mul-le-mul_right 20000 few in
     omega arith
 
--- what a dyeing adds has room, and how large the sum may be by then
+-- the sum with one more dyeing does not overflow, and its magnitude has a bound
 pub record Step (n : ℕ) (ds : List Dyeing) (i : ℕ) (sum part : Ends) : Type 0 where
   pub room : magnitude_of sum + magnitude_of part ≤ 10 ^ 25
   pub magnitude : MagnitudeUpTo (unit_sum (take (i + 1) ds) * (10 ^ 4 * n)) (sum_of sum part)

@@ -40,7 +40,7 @@ units_positive dye kept =
 pub squares_positive : (dye : DyeData) → IsDye dye → 0 < square_sum dye.dyeings
 squares_positive dye kept = omega (arith, units_positive dye kept, units_under_squares dye.dyeings)
 
--- the value at so many units, where the numerator is that of a dye
+-- the value at the given units, where the numerator is that of a dye
 value_up_to : (n : ℕ) (dye : DyeData) (wave units : ℕ) → IsDye dye → units ≤ 20000 → UpTo (unit_sum dye.dyeings * (10 ^ 4 * n)) (numerator_at n dye.substrate wave dye.dyeings) → UpTo (2 * 10 ^ 8 * n) (value_at n dye wave units)
 unfolding value_at
 value_up_to n dye wave units kept few range =
@@ -66,7 +66,7 @@ pub record IsSlope (n : ℕ) (dye : DyeData) (wave denominator : ℕ) (numerator
   pub numerator_is : ends_of numerator ≡ numerator_at n dye.substrate wave dye.dyeings
   pub range : UpTo (unit_sum dye.dyeings * (10 ^ 4 * n)) (ends_of numerator)
 
--- from what the type keeps of its fields
+-- this follows from what holds of the fields of the type
 pub slope_of : (n : ℕ) (inner dye : DyeData) (wave denominator : ℕ) (numerator : ℕ × ℕ) → inner ≡ dye → IsDye inner → denominator ≡ square_sum inner.dyeings → ends_of numerator ≡ numerator_at n dye.substrate wave dye.dyeings
     → UpTo (unit_sum dye.dyeings * (10 ^ 4 * n)) (ends_of numerator) → IsSlope n dye wave denominator numerator
 slope_of n inner dye wave denominator numerator same kept is numerator_is range =

@@ -1,4 +1,4 @@
--- A dye, by the cloths that were dyed with it to calibrate it.
+-- A dye, described by the cloths that were dyed with it to calibrate it.
 use Rattle.std.specs.Prelude.{◌≡◌, ◌≤◌, ℕ, List, All, length}
 use Rattle.spectral_tables.specs.Curve.{IsCurve}
 
@@ -6,7 +6,7 @@ use Rattle.spectral_tables.specs.Curve.{IsCurve}
 abbrev pub IsUnits : ℕ → Type 0
 IsUnits units = (1 ≤ units) × (units ≤ 20000)
 
--- a cloth that was dyed with so many units, and its reflectances in millionths
+-- the units with which a cloth was dyed, and its reflectances in millionths
 abbrev pub Dyeing : Type 0
 Dyeing = ℕ × List ℕ
 
@@ -16,18 +16,18 @@ pub record DyeData : Type 0 where
   pub substrate : List ℕ
   pub dyeings : List Dyeing
 
--- a dyeing of a cloth of so many wavelengths
+-- a dyeing whose curve has `count` wavelengths
 pub record IsDyeing (count : ℕ) (dyeing : Dyeing) : Type 0 where
   pub units : IsUnits dyeing.0
   pub waves : length dyeing.1 ≡ count
 
--- what a dye can be made of
+-- the data of which a dye can be made
 pub record CanCalibrate (dye : DyeData) : Type 0 where
   pub step : IsUnits dye.step
   pub some : 1 ≤ length dye.dyeings
   pub dyeings : All (IsDyeing (length dye.substrate)) dye.dyeings
 
--- what a dye keeps
+-- what holds of every dye
 pub record IsDye (dye : DyeData) : Type 0 where
   pub calibrates : CanCalibrate dye
   pub few : length dye.dyeings ≤ 8

@@ -3,6 +3,6 @@ use Rattle.std.specs.Prelude.{ℕ, ◌-◌, ◌*◌, ◌^◌, pos}
 use Rattle.interval_specs.specs.Ends.{Ends}
 use Rattle.interval_specs.specs.Operations.{ratio_at}
 
--- K/S = (1 - R)^2 / 2R at scale n, of a reflectance R of so many millionths
+-- K/S = (1 - R)^2 / 2R at scale n, of a reflectance R in millionths
 unfoldable pub ks_at : ℕ → ℕ → Ends
 ks_at n millionths = ratio_at n (pos ((10 ^ 6 - millionths) * (10 ^ 6 - millionths))) (2 * 10 ^ 6 * millionths)

@@ -9,7 +9,7 @@ use Rattle.ks_curves.specs.Calibration.{contribution_at, contribution_range_at}
 abbrev pub KsEncloses : Type 0
 KsEncloses = (n m millionths : ℕ) → Encloses m (ks_at n millionths) (ks_at (m * n) millionths)
 
--- so does a contribution
+-- a contribution keeps enclosing, too
 abbrev pub ContributionEncloses : Type 0
 ContributionEncloses =
     (n m : ℕ) (dye : DyeData) (wave n0 n1 : ℕ) → n0 ≤ n1

@@ -1,11 +1,11 @@
--- What a dye keeps of its slope.
+-- What a dye stores of the slope of its calibration.
 use Rattle.std.specs.Prelude.{◌≡◌, ◌<◌, ◌*◌, ◌^◌, ℕ, List, length, slice_index_or, sum_by}
 use Rattle.interval_specs.specs.Ranges.{UpTo}
 use Rattle.spectral_tables.specs.Spectrum.{ends_of}
 use Rattle.ks_curves.specs.Dye.{Dyeing, DyeData, IsDye}
 use Rattle.ks_curves.specs.Calibration.{numerator_at, square_sum}
 
--- all units of the dyeings
+-- the sum of the units of the dyeings
 abbrev pub unit_sum : List Dyeing → ℕ
 unit_sum dyeings = sum_by (λ dyeing. dyeing.0) dyeings
 

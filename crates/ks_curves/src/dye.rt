@@ -24,8 +24,8 @@ type Numerators = ArrayVec<(u128, u128), MOST_WAVES>;
 /// Guesses at the two ends of the slope at each wavelength, for the base scale.
 type Slopes = [(u64, u64); MOST_WAVES];
 
-/// A dye, by the cloths that were dyed with it: the units of a step, 1 to 8 dyeings of so many
-/// units each, and the undyed cloth. A unit is 0.001 percent of the weight of the cloth.
+/// A dye, described by the cloths that were dyed with it: the units of a step, 1 to 8 dyeings with
+/// the units of each, and the undyed cloth. A unit is 0.001 percent of the weight of the cloth.
 ///
 /// The slope of its calibration does not depend on the steps, so it is kept at both scales.
 #[derive(Drop)]
@@ -90,7 +90,7 @@ fn near_slopes(numerators: &[(u128, u128)], denominator: u64) -> Slopes {
 }
 
 impl Dye {
-    /// The dye of these dyeings of a cloth, and of recipes in steps of so many units.
+    /// The dye with these dyeings of a cloth. A step of a recipe has `step` units.
     pub fn of(step: u32, substrate: Curve, dyeings: ArrayVec<(u32, Curve), 8>) -> Dye
         requires { CanCalibrate
             (record { step = step; substrate = substrate; dyeings = dyeings.items }) }
@@ -129,8 +129,8 @@ impl Dye {
         self.substrate.waves()
     }
 
-    /// The ends of the numerator of the slope at a wavelength: kept at both scales, computed at any
-    /// other.
+    /// The ends of the numerator of the slope at a wavelength: stored at both scales, and computed
+    /// at any other.
     #[inline(always)]
     fn numerator<S: Scale>(&self, wave: usize) -> (u128, u128)
         requires { wave < length self.now.substrate }
@@ -148,8 +148,8 @@ impl Dye {
         }
     }
 
-    /// A guess at the ends of the slope at a wavelength: at the base scale alone, since a division
-    /// costs less at the other.
+    /// A guess at the ends of the slope at a wavelength, only at the base scale, since a division
+    /// costs less at the quick scale.
     #[inline(always)]
     fn near<S: Scale>(&self, wave: usize) -> (u64, u64) {
         if S::UNIT != Base::UNIT {

@@ -1,11 +1,11 @@
-//! Guesses at the value of a calibration. Nothing is claimed of them: a wrong one costs a division.
+//! Guesses at the value of a calibration. Nothing is proved of them: a wrong one costs a division.
 
 /// A guess at the value at 2^24 units.
 pub(crate) fn near_slope(numerator: u128, denominator: u64) -> u64 {
     low_word(numerator.wrapping_shl(24) / u128::from(denominator.max(1)))
 }
 
-/// A guess at the value at so many units, from that at 2^24.
+/// A guess at the value at these units, from that at 2^24 units.
 #[inline(always)]
 pub(crate) fn near_value(slope: u64, units: u32) -> u64 {
     low_word(u128::from(slope).wrapping_mul(u128::from(units)) >> 24)

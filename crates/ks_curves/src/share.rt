@@ -1,5 +1,5 @@
-//! A number times units, over a denominator: one multiplication, and a quotient by a guess. Most
-//! boxes of recipes have no steps of some dyes, so that no units cost nothing.
+//! A number times units, over a denominator: one multiplication, and a quotient by a guess. For 0
+//! units, which most boxes of recipes have of some dyes, the result is 0 without either.
 
 ghost use Rattle.std.specs.Prelude.{◌≡◌, ℕ, pos, ◌*◌, ◌^◌, ◌<◌, ◌≤◌};
 ghost use Rattle.interval_specs.specs.Rounding.{floor_over, ceil_over};

@@ -50,8 +50,8 @@ fn a_dye_of_one_dyeing(rt: HostRuntime) {
     assert_eq!(rt; (dye.waves(), dye.step()), (31, 10));
 }
 
-/// A wrong guess costs time and nothing else, so no clause speaks of it: here wrong ones are
-/// counted, for numerators up to 2^56 parts, as a dye of four dyeings has.
+/// A wrong guess only costs time, so no clause rules it out: this test counts the wrong ones, for
+/// numerators up to 2^56 parts, as a dye of four dyeings has.
 #[test]
 fn guesses_are_mostly_right(rt: HostRuntime) {
     let squares: u64 = 5_312_500;

@@ -1,4 +1,4 @@
--- The colour of a spectrum under a weights, and the law of the difference by any formula.
+-- The colour of a spectrum under weights, and the law of the difference by any formula.
 use Rattle.std.proofs.Common.{◌≡◌, ◌*◌, ◌<◌, ℕ, List, All, arith, subst, sym}
 use Rattle.interval_specs.specs.Ends.{Ends}
 use Rattle.interval_specs.specs.Encloses.{Encloses}

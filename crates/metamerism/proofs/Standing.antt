@@ -1,11 +1,11 @@
--- A kept value that stands for a standard, as a light says of its own.
+-- A light keeps a value that stands for its standard.
 use Rattle.std.proofs.Common.{◌≡◌}
 use Rattle.std.proofs.Math.Logic.{∥∥₁_elim, ∥∥₁_prop}
 use Rattle.std.proofs.Props.{props}
 use Rattle.interval_specs.specs.Ends.{Ends}
 use Rattle.cielab_bounds.specs.Cielab.{LabEnds}
 
--- it stands for some standard
+-- the kept value stands for some standard
 pub some_standard : (Stands : LabEnds → Type 0) (p : LabEnds) → ∥ Stands p ∥₁ → ∥ ((q : LabEnds) × Stands q) ∥₁
 some_standard Stands p h = ∥∥₁_elim h ∥∥₁_prop (λ s. ∣ (p, s) ∣₁)
 

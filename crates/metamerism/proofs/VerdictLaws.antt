@@ -1,11 +1,11 @@
--- A verdict says what it means, and a light's pass or fail stands at every finer scale.
+-- The meaning of a verdict on a light holds, and a pass or a fail stays one at every finer scale.
 use Rattle.std.proofs.Common.{ℕ, pos, ◌≡◌, Bool, true, false, ◌+◌, ◌*◌, ◌<◌, ◌*ℤ◌, ◌≤ℤ◌, if◌then◌else◌, int_le, int_lt, arith, refl}
 use Rattle.std.proofs.lemmas.Int.{ints}
 use Rattle.interval_specs.specs.Ends.{Ends, IsOrdered}
 use Rattle.interval_specs.specs.Encloses.{Encloses}
 use Rattle.interval_specs.proofs.Laws.{le_refuses, le_test, lt_test}
 use Rattle.interval_specs.proofs.Order.{parts, by_parts, by_parts_lt, to_parts, mono_left}
-use Rattle.metamerism.specs.Laws.{VerdictStands}
+use Rattle.metamerism.specs.Laws.{VerdictStays}
 use Rattle.metamerism.specs.Verdicts.{IsFail, IsPass, LightVerdictHolds, light_verdict}
 use Rattle.metamerism.specs.declared.outcomes.Verdict.{Verdict}
 use Rattle.metamerism.specs.declared.outcomes.Verdict.TheVariants.{Fail, Pass, Undecided}
@@ -23,7 +23,7 @@ fail_finer t n m d d' some h fails =
     let r = simp parts at (to_parts (pos 1000 *ℤ (pos m *ℤ d.lo)) (pos 1000 *ℤ d'.lo) (mono_left 1000 (pos m *ℤ d.lo) d'.lo h.low)) in
     by_parts_lt (pos (t * (m * n))) (pos 1000 *ℤ d'.lo) (simp parts (omega arith))
 
--- what the verdict on a light says of its difference
+-- the meaning of the verdict on a light holds of its difference
 abbrev pub LightSays : ℕ → ℕ → ℕ → Ends → Verdict → Type 0
 LightSays n t number d Pass = IsPass n t d × (IsFail n t d → ⊥)
 LightSays n t number d (Fail k) = (k ≡ number) × IsFail n t d
@@ -72,13 +72,13 @@ failed n t number d = by (int_le (pos 1000 *ℤ d.hi) (pos (t * n))) (int_lt (po
     by false true is_f e = omega (arith, ints)
     by false false is_f e = absurd cc
 
-pub verdict_stands : VerdictStands
-verdict_stands n m t number d d' some h = (
+pub verdict_stays : VerdictStays
+verdict_stays n m t number d d' some h = (
   λ e. pass_is (m * n) t number d' (pass_finer t n m d d' h (passed n t number d e)),
   λ e. fail_is (m * n) t number d' h.ordered (fail_finer t n m d d' some h (failed n t number d e)),
 )
 
--- what the verdict at a scale says holds at every finer one
+-- a pass or a fail at a scale is one at every finer scale
 pub verdict_finer : (n m t number : ℕ) (d d' : Ends) → 0 < m → Encloses m d d' → LightVerdictHolds (m * n) t d' (light_verdict n t number d)
 unfolding light_verdict
 verdict_finer n m t number d d' some h = by (int_le (pos 1000 *ℤ d.hi) (pos (t * n))) (int_lt (pos (t * n)) (pos 1000 *ℤ d.lo)) refl refl

@@ -1,4 +1,4 @@
--- The verdict on all lights says what it means.
+-- The meaning of the verdict on all lights holds.
 use Rattle.std.proofs.Common.{ℕ, zero, suc, ◌≡◌, ◌+◌, ◌<◌, arith, refl, List, [], ◌∷◌, length, All, subst}
 use Rattle.interval_specs.specs.Ends.{Ends, IsOrdered}
 use Rattle.metamerism.specs.Laws.{VerdictIsTrue}

@@ -1,4 +1,4 @@
--- One item to four, in order.
+-- One item or two, in order.
 use Rattle.std.specs.Prelude.{List, [], ◌∷◌}
 use Rattle.metamerism.specs.declared.few.Few.{Few}
 use Rattle.metamerism.specs.declared.few.Few.TheVariants.{One, Two}

@@ -61,7 +61,7 @@ pub fn delta_of<S: Scale, D: Difference<S>>(light: &Light<S, D>, sample: &Spectr
     light.rule.delta(&light.kept, &sample)
 }
 
-/// The differences of a sample from the standards of the lights, one a light in their order.
+/// The differences of a sample from the standards of the lights, one for each light, in order.
 pub fn deltas<S: Scale, D: Difference<S>>(lights: &Lights<S, D>, sample: &Spectrum<S>) -> Deltas<S>
     requires { FitsLights lights.now sample.now }
     ensures { result.each.items ≡ deltas_under lights.now sample.now }

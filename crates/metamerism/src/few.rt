@@ -1,4 +1,4 @@
-//! One item to four.
+//! One item or two, in order.
 
 ghost use Rattle.std.specs.Prelude.{◌≡◌, ◌<◌, ◌≤◌, Some, length, slice_get};
 ghost use Rattle.metamerism.specs.Few.{items_of};

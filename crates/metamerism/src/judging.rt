@@ -35,7 +35,7 @@ pub fn judge_light(tolerance: u32, number: u8, delta: Iv<Base>) -> Verdict
     judge_at(tolerance, number, delta)
 }
 
-/// The verdict on a sample by its differences under the lights, one a light.
+/// The verdict on a sample by its differences under the lights, one for each light.
 pub fn verdict<S: Scale, D: Difference<S>>(lights: &Lights<S, D>, deltas: &Deltas<S>) -> Verdict
     requires { array_vec_len deltas.now.each ≡ length (lights_of lights.now) }
     ensures { result ≡ verdict_at S.unit (tolerances_of lights.now) deltas.now.each.items }

@@ -1,5 +1,5 @@
 //! The laws of differences and verdicts. A call does nothing; what it ensures is the law.
-ghost use Rattle.metamerism.specs.Laws.{ColourInRange, EnclosesFiner, EnclosesNarrower, VerdictIsTrue, VerdictStands};
+ghost use Rattle.metamerism.specs.Laws.{ColourInRange, EnclosesFiner, EnclosesNarrower, VerdictIsTrue, VerdictStays};
 
 use cielab_bounds::Formula;
 
@@ -19,12 +19,12 @@ pub fn narrower<D: Formula>(rule: &D)
     ensures { EnclosesNarrower (D.value rule.now) }
 {}
 
-/// What [`verdict`](crate::verdict) says of each light.
+/// The meaning of the result of [`verdict`](crate::verdict) for each light.
 pub fn verdict()
     ensures { VerdictIsTrue }
 {}
 
-/// What [`judge_light`](crate::judge_light) passes or fails stands at every finer scale.
+/// A pass or a fail by [`judge_light`](crate::judge_light) is one at every finer scale.
 pub fn judge_light()
-    ensures { VerdictStands }
+    ensures { VerdictStays }
 {}

@@ -46,7 +46,7 @@ impl<S: Scale, D: Difference<S>> Lights<S, D> {
     /// The light of a number, the first being number 1.
     pub fn get(&self, number: u8) -> &Light<S, D>
         requires some { 0 < number }
-        requires within { number ≤ length (lights_of self.now) }
+        requires there { number ≤ length (lights_of self.now) }
         ensures { slice_get (lights_of self.now) (number - 1) ≡ Some result.now }
     {
         self.each.at(usize::from(number) - 1)

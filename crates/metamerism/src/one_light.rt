@@ -7,9 +7,9 @@ use cielab_bounds::{Difference, Lab};
 use fix_bounds::Scale;
 use spectral_tables::Weights;
 
-/// A light that a sample is compared with a standard under: its weights, the greatest difference
+/// A light under which samples are compared with a standard: its weights, the greatest difference
 /// that passes, in thousandths, the formula of the difference, and the colour of the standard with
-/// what the formula keeps of it.
+/// the values that the formula computes from it in advance.
 #[derive(Drop)]
 pub struct Light<S: Scale, D: Difference<S>> {
     pub weights: Weights,

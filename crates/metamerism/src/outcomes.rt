@@ -1,4 +1,4 @@
-//! What comes of a comparison under lights.
+//! The results of a comparison under lights.
 
 use arrayvec::ArrayVec;
 use fix_bounds::{Iv, Scale};
@@ -9,13 +9,13 @@ pub struct Deltas<S: Scale> {
     pub each: ArrayVec<Iv<S>, 4>,
 }
 
-/// What is said of a sample against the tolerances of the lights.
+/// The verdict on a sample against the tolerances of the lights.
 #[derive(Clone, Copy, Debug, PartialEq, Eq)]
 pub enum Verdict {
     /// Under every light the upper end of the difference is within the tolerance.
     Pass,
-    /// Under the light of this number, the first of them from 1 on, the lower end is above the
-    /// tolerance.
+    /// Under the light of this number, counted from 1, the lower end of the difference is above the
+    /// tolerance. It is the first such light.
     Fail(u8),
     /// No light fails, but the tolerance of one lies within the ends of its difference.
     Undecided,
@@ -37,7 +37,7 @@ impl Verdict {
     ghost use Rattle.std.specs.Prelude.{◌≡◌};
     ghost use Rattle.metamerism.specs.Verdicts.{joint};
 
-    /// The verdict on the lights of both, those of `after` being numbered after the others.
+    /// The verdict on the lights of both, where those of `after` have the higher numbers.
     pub(crate) fn joint(self, after: Verdict) -> Verdict
         ensures { result ≡ joint self after }
     {

@@ -1,4 +1,4 @@
--- The ends of 1 + q + sqrt(q^2 + 2q) for a q from 0 up, and how large they are.
+-- The ends of 1 + q + sqrt(q^2 + 2q) for a q that is not below 0, and bounds on them.
 use Rattle.std.proofs.Common.{ℕ, pos, ◌+◌, ◌*◌, ◌^◌, ◌/◌, ◌≡◌, ◌∙◌, ◌≤◌, ◌<◌, ◌≤ℤ◌, ◌*ℤ◌, unsigned_abs, ap, sym, refl, arith, mul-le-mul, mul-le-mul_right}
 use Rattle.std.proofs.lemmas.Int.{ints}
 use Rattle.std.specs.Int.{div_ceil}
@@ -56,7 +56,7 @@ naturals q z o =
 pub divisor_is : (n : ℕ) (q : Ends) → 0 < n → pos 0 ≤ℤ q.lo → q.lo ≤ℤ q.hi → divisor_at n q ≡ record { lo = pos (down n (unsigned_abs q.lo)); hi = pos (up n (unsigned_abs q.hi)) }
 divisor_is n q some z o = ap (divisor_at n) (naturals q z o) ∙ divisor_ends n (unsigned_abs q.lo) (unsigned_abs q.hi) some (omega (arith, ints))
 
--- ---- the upper root has room
+-- ---- the upper root does not overflow
 
 square_small : (n q : ℕ) → q ≤ 2 * 10 ^ 6 * n → q * q ≤ 4 * 10 ^ 12 * n * n
 square_small n q h = let m = mul-le-mul h h in omega arith

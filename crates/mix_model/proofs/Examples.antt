@@ -1,4 +1,4 @@
--- The mixtures of the tests are within the strength that can be mixed, by computing them.
+-- The mixtures of the tests are not too strong to be mixed: this is proved by computing them.
 use Rattle.std.proofs.Common.{◌≡◌, ◌*◌, ◌^◌, ◌≤ℤ◌, ◌≤◌, ◌<◌, ℕ, pos, Bool, true, List, [], ◌∷◌, get_or, refl, zero, suc, lit≤, arith}
 use Rattle.std.specs.Prelude.{int_le, replicate}
 use Rattle.std.specs.List.{list_all}

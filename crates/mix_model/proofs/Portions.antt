@@ -94,7 +94,7 @@ range_more k j n wave sum part total rest u v is strong =
     let both = sum_up_to k j sum part u v in
     record { not_negative = both.not_negative; ordered = both.ordered; below = sum_below (sum_of sum part) (contributions_at n wave rest) k later all }
 
--- the whole is within the strength that can be mixed
+-- the whole sum is not too strong to be mixed
 pub strength_at : (n : ℕ) (ps : List Portion) (wave : ℕ) (base : List Ends) (k total : Ends) → wave < length base → slice_get base wave ≡ Some k → total ≡ sum_of k (contributions_at n wave ps)
     → CanReflect n (mixture_from n ps 0 base) → total.hi ≤ℤ pos (2 * 10 ^ 6 * n)
 strength_at n ps wave base k total lt here is strong =
@@ -103,10 +103,10 @@ strength_at n ps wave base k total lt here is strong =
     let found = get_or_from_slice_get (mixture_from n ps 0 base) wave (sum_of k (contributions_at n wave ps)) total (mixture_is n ps wave base k here) in
     subst P (found ∙ sym is) (strong wave total within)
 
--- ---- the turn of a loop over the dyes
+-- ---- one turn of a loop over the dyes
 
 pub record IsTurn (count : ℕ) (ps : List Portion) (i : ℕ) (p : Portion) : Type 0 where
-  pub within : i < length ps
+  pub in_list : i < length ps
   pub is : get_or ps i p ≡ p
   pub can : IsPortion count p
 
@@ -116,7 +116,7 @@ turn base dyes lo hi i dye mixes lt is =
     let p : Portion = record { dye = dye; fewest = get_or lo i 0; most = get_or hi i 0 } in
     let within : i < length (portions dyes lo hi) = omega (arith, lt, length-portions dyes lo hi mixes.lo_count mixes.hi_count) in
     let found = portion_at dyes lo hi i p dye mixes.lo_count mixes.hi_count lt ∙ (λ j. record { dye = sym is j; fewest = get_or lo i 0; most = get_or hi i 0 }) in
-    record { within = within; is = found; can = subst (IsPortion (length base)) found (mixes.each i p within) }
+    record { in_list = within; is = found; can = subst (IsPortion (length base)) found (mixes.each i p within) }
 
 -- ---- the reflectances so far
 
@@ -135,14 +135,14 @@ pub length-mixed : (n : ℕ) (ps : List Portion) (base : List Ends) → length (
 unfolding mixed_at
 length-mixed n ps base = length-map (mixture_from n ps 0 base) (reflectance_at n) ∙ length-mixture n ps 0 base
 
--- the whole, once every wavelength is there
+-- the whole spectrum, once every wavelength is there
 pub all_mixed : (n : ℕ) (ps : List Portion) (base : List Ends) (wave : ℕ) (items slice : List Ends) → slice ≡ items → items ≡ take wave (mixed_at n base ps) → length base ≤ wave → slice ≡ mixed_at n base ps
 all_mixed n ps base wave items slice same so_far le = same ∙ so_far ∙ take_all wave (mixed_at n base ps) (omega (arith, le, length-mixed n ps base))
 
 pub is_spectrum : (n : ℕ) (ps : List Portion) (base : List Ends) (items slice : List Ends) → slice ≡ items → slice ≡ mixed_at n base ps → IsWaveCount (length base) → All (UpTo n) items → IsSpectrum n slice
 is_spectrum n ps base items slice same is count range = record { count = ap length is ∙ length-mixed n ps base ∙ count; range = rw same range }
 
--- ---- the room of a sum, and its range
+-- ---- a sum does not overflow, and its range
 
 pub sum_room : (n i count : ℕ) (mixture : List Ends) (sum part : Ends) → n ≤ 10 ^ 12 → i < count → (count ≤ 12) ⊎ CanReflect n mixture → UpTo (5000 * n + i * (2 * 10 ^ 8 * n)) sum
     → (CanReflect n mixture → UpTo (2 * 10 ^ 6 * n) sum) → UpTo (2 * 10 ^ 8 * n) part → magnitude_of sum + magnitude_of part ≤ 10 ^ 25

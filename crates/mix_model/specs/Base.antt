@@ -9,7 +9,7 @@ use Rattle.ks_curves.specs.KubelkaMunk.{ks_at}
 unfoldable pub base_at : ℕ → List ℕ → List Ends
 base_at n curve = map (ks_at n) curve
 
--- what a base keeps: K/S from 0 to 5000 at each wavelength
+-- what holds of every base: K/S from 0 to 5000 at each wavelength
 pub record IsBase (n : ℕ) (base : List Ends) : Type 0 where
   pub count : IsWaveCount (length base)
   pub range : All (UpTo (5000 * n)) base

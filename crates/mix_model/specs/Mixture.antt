@@ -24,7 +24,7 @@ unfoldable pub contributions_at : ℕ → ℕ → List Portion → Ends
 contributions_at n wave [] = nothing
 contributions_at n wave (p ∷ ps) = sum_of (contribution_range_at n p.dye wave p.fewest p.most) (contributions_at n wave ps)
 
--- the K/S of the mixture from a wavelength on, over the base from there on
+-- the K/S of the mixture from a wavelength on, where `base` begins at this wavelength
 unfoldable pub mixture_from : ℕ → List Portion → ℕ → List Ends → List Ends
 mixture_from n ps wave [] = []
 mixture_from n ps wave (k ∷ base) = sum_of k (contributions_at n wave ps) ∷ mixture_from n ps (wave + 1) base
@@ -37,13 +37,13 @@ mixture_ks_at n base ps = mixture_from n ps 0 base
 unfoldable pub mixed_at : ℕ → List Ends → List Portion → List Ends
 mixed_at n base ps = map (reflectance_at n) (mixture_ks_at n base ps)
 
--- a portion that can be mixed to a base of so many wavelengths
+-- a portion that can be added to a base of `count` wavelengths
 pub record IsPortion (count : ℕ) (p : Portion) : Type 0 where
   pub ordered : p.fewest ≤ p.most
   pub units : p.most * p.dye.step ≤ 20000
   pub waves : length p.dye.substrate ≡ count
 
--- dyes that can be added to a base of so many wavelengths: as many steps as dyes, and portions that fit
+-- dyes that can be added to a base of `count` wavelengths: as many steps as dyes, and portions that fit
 pub record CanAdd (count : ℕ) (dyes : List DyeData) (lo hi : List ℕ) : Type 0 where
   pub lo_count : length lo ≡ length dyes
   pub hi_count : length hi ≡ length dyes

@@ -1,4 +1,4 @@
-//! What dyes are added to.
+//! The cloth that dyes are added to.
 
 ghost use Rattle.std.specs.Prelude.{◌≡◌, ◌<◌, ◌≤◌, ◌*◌, ◌^◌, ℕ, Some, length, slice_get};
 ghost use Rattle.interval_specs.specs.Ranges.{UpTo};

@@ -27,8 +27,8 @@ pub(crate) fn over_unit_up<S: Scale>(z: u128) -> u128
     over_unit::<S>(z + u128::from(unit::<S>() - 1))
 }
 
-/// A guess at the quotient of `z` by the unit, this or one less, for a `z` of at most 54 bits more
-/// than the unit. Nothing is claimed of it.
+/// A guess at the quotient of `z` by the unit. It is meant to be the quotient or one less, for a
+/// `z` of at most 54 bits more than the unit, but nothing is proved of it.
 #[inline(always)]
 pub(crate) fn near_over_unit<S: Scale>(z: u128) -> u64 {
     let parts = unit::<S>();

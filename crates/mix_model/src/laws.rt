@@ -26,7 +26,7 @@ pub fn mix_in_range()
     ensures { MixtureNarrows }
 {}
 
-/// What can be mixed at 10^12 with K/S of at most 10^6 can be mixed at 10^8.
+/// What can be mixed at the scale 10^12 with a K/S of at most 10^6 can be mixed at the scale 10^8.
 pub fn quick_scale()
     ensures { QuickIsNear }
 {}

@@ -12,8 +12,8 @@ use fix_bounds::{Iv, Scale};
 use ks_curves::{Dye, contribution_range};
 use spectral_tables::Spectrum;
 
-/// The K/S of a mixture at a wavelength, which no step of the sum leaves 128 bits for: of few dyes,
-/// or of a sum that is not too strong.
+/// The K/S of a mixture at a wavelength. No step of the sum overflows, as there are few dyes or the
+/// sum is not too strong.
 fn sum_ks<S: Scale>(base: &BaseCurve<S>, dyes: &[Dye], lo: &[u16], hi: &[u16], wave: usize) -> Iv<S>
     requires wave { wave < length base.now }
     requires adds { CanAdd (length base.now) dyes.now lo.now hi.now }
@@ -36,7 +36,7 @@ fn sum_ks<S: Scale>(base: &BaseCurve<S>, dyes: &[Dye], lo: &[u16], hi: &[u16], w
 /// The K/S of a mixture at a wavelength: `lo` to `hi` steps of each dye, in the order of the dyes,
 /// on a base.
 ///
-/// It has no bound on its strength: by it a caller can tell whether [`mix`] takes the mixture.
+/// The mixture may be of any strength, so a caller can test whether [`mix`] accepts it.
 pub fn mixture_ks<S: Scale>(
     base: &BaseCurve<S>,
     dyes: &[Dye],
@@ -57,7 +57,7 @@ pub fn mixture_ks<S: Scale>(
 /// The reflectances of a mixture: `lo` to `hi` steps of each dye, in the order of the dyes, on a
 /// base.
 ///
-/// Of a recipe both are its steps.
+/// For a single recipe, both are its steps.
 pub fn mix<S: Scale>(base: &BaseCurve<S>, dyes: &[Dye], lo: &[u16], hi: &[u16]) -> Spectrum<S>
     requires { CanMix S.unit base.now dyes.now lo.now hi.now }
     ensures is { result ≡ mixed_at S.unit base.now (portions dyes.now lo.now hi.now) }

@@ -35,7 +35,7 @@ pub(crate) fn divisor_up<S: Scale>(q: u64) -> u64
 }
 
 /// A guess at the square of `parts` over `divisor`: the reciprocal of 1 + q + sqrt(q^2 + 2q) is
-/// 1 + q - sqrt(q^2 + 2q). Nothing is claimed of it.
+/// 1 + q - sqrt(q^2 + 2q). Nothing is proved of it.
 #[inline(always)]
 pub(crate) fn near_reflectance(parts: u64, q: u64, divisor: u64) -> u64 {
     parts.wrapping_add(q).wrapping_mul(2).wrapping_sub(divisor)

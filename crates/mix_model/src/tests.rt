@@ -10,8 +10,8 @@ fn ends<S: Scale>(iv: Iv<S>) -> (i128, i128) {
     (iv.lo(), iv.hi())
 }
 
-// Half the light is reflected where K/S is a quarter, and all of it where K/S is 0. A cloth of 50
-// percent that takes as much dye as a dyeing of 30 percent comes out at 30 percent.
+// Half the light is reflected where K/S is a quarter, and all of it where K/S is 0. A cloth that
+// reflects 50 percent, with as much dye as a dyeing that reflects 30 percent, reflects 30 percent.
 #[test]
 fn mixtures(rt: HostRuntime) {
     let quarter = Iv::<Base>::of_ends(250_000_000_000, 250_000_000_000);
@@ -35,8 +35,8 @@ fn mixtures(rt: HostRuntime) {
     assert_eq!(rt; ends(any), (dyed.lo(), 500_000_000_000));
 }
 
-/// A wrong guess costs time and nothing else, so no clause speaks of it: here wrong ones are
-/// counted, for K/S from 0 to 30.
+/// A wrong guess only costs time, so no clause rules it out: this test counts the wrong ones, for
+/// K/S from 0 to 30.
 #[test]
 fn guesses_are_mostly_right(rt: HostRuntime) {
     assert!(rt; wrong_guesses::<Base>() < 4);

@@ -29,7 +29,7 @@ loop-i-preserved g c =
     let ps = portions c.args.dyes.now c.args.lo.now c.args.hi.now in
     let t = turn c.args.base.now c.args.dyes.now c.args.lo.now c.args.hi.now c.loop-i.i c.index-dyes-i.result c.requires.adds c.loop-i-test.true c.index-dyes-i.is in
     let total = sum_of c.at-sum.result (contributions_at n c.args.wave ps) in
-    let more = sum_more n c.args.wave ps c.loop-i.i _ c.loop-i.sum c.contribution_range.result total t.within t.is c.contribution_range.ensures.is c.loop-i.invariant.so_far in
+    let more = sum_more n c.args.wave ps c.loop-i.i _ c.loop-i.sum c.contribution_range.result total t.in_list t.is c.contribution_range.ensures.is c.loop-i.invariant.so_far in
     record {
       so_far = rw c.add-sum.ensures.is more;
       range = rw c.add-sum.ensures.is (range_next n c.loop-i.i c.loop-i.sum c.contribution_range.result c.loop-i.invariant.range c.contribution_range.ensures.range);
