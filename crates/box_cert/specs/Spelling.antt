@@ -30,7 +30,7 @@ line_text Dear = 100 ∷ []
 line_text Undecided = 117 ∷ []
 line_text Pass = 112 ∷ []
 
--- a recipe has at least one number
+-- the recipe of a match has at least one number
 abbrev pub HasNumbers : Claim → Type 0
 HasNumbers (Match recipe) = 1 ≤ length recipe.items
 HasNumbers NoMatch = Unit {0}

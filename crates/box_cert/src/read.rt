@@ -254,7 +254,7 @@ fn whole_cert(alloc: Global, bytes: &[u8], dims: usize) -> Result<Cert, CertErro
     })
 }
 
-/// The certificate that the bytes spell, with recipes of so many dyes, or their first fault.
+/// The certificate that the bytes spell, with recipes of `dims` dyes, or their first fault.
 ///
 /// Memory grows only with the lines that are there, however many recipes the third line states.
 pub fn read_cert(alloc: Global, bytes: &[u8], dims: usize) -> Result<Cert, CertError>

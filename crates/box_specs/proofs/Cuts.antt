@@ -91,7 +91,7 @@ module _ (b : Span) (cut : CutAt) (box : IsBox b) (c : Cuts b cut) where
   pub upper_is_box : IsBox (upper_half b cut)
   upper_is_box = set_low b.lo b.hi cut.dye (cut.mid + 1) box (omega (arith, c.high))
 
-  -- a recipe of a half is one of the box
+  -- a recipe of a half lies in the box
   pub from_lower : (steps : List ℕ) → IsWithin steps (lower_half b cut) → IsWithin steps b
   from_lower steps h = (h.0, unset_high steps b.hi cut.dye cut.mid h.1 (omega (arith, c.high)))
 

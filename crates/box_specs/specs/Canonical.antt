@@ -39,7 +39,7 @@ module _ (l : Land) where
   abbrev pub canonical_lines : ℕ → List CertLine
   canonical_lines boxes = lines (is_judged boxes) 0 (tree_of l)
 
-  -- a part of a tree, at a depth
+  -- u is a subtree, at the depth d, of a tree whose root has the given depth
   abbrev pub IsPart : Tree → ℕ → ℕ → Tree → Type 0
   IsPart (leaf b) depth d u = (depth ≡ d) × (leaf b ≡ u)
   IsPart (fork b lower upper) depth d u = ((depth ≡ d) × (fork b lower upper ≡ u)) ⊎ (IsPart lower (depth + 1) d u ⊎ IsPart upper (depth + 1) d u)
@@ -52,7 +52,7 @@ module _ (l : Land) where
   IsClaim budget (Floor cost) =
       (budget < need l) × (d : ℕ) × (u : Tree) × IsPart (tree_of l) 0 d u × (rank l (spot_of l d (root u)) ≡ budget) × (cost ≡ l.cost (root u).lo)
 
-  -- recipes that rise
+  -- the recipes are in rising order
   abbrev pub IsRising : List (List ℕ) → Type 0
   IsRising listed = AllPairs (λ a b. is_before l a b ≡ true) listed
 

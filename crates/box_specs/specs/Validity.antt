@@ -77,7 +77,7 @@ or_next None next = next
 or_next (Some failure) next = Some failure
 
 module _ (l : Land) (claim : Claim) (listed : List (List ℕ)) where
-  -- a box is too dear: after the recipe of a match, or at the floor and above
+  -- a box is too dear: its lower corner comes after the recipe of a match, or costs at least the floor
   abbrev pub is_dear : Claim → Span → Bool
   is_dear (Match recipe) b = is_before l recipe.items b.lo
   is_dear NoMatch b = false

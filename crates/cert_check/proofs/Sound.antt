@@ -73,7 +73,7 @@ first_found l test first (suc count) k h m e = go (test first) refl (λ le. firs
         absurd (false≢true (sym s ∙ subst (λ j. test j ≡ true) same e))
   ]
 
--- a recipe that is one of those corners has it
+-- what holds of all recipes of a list holds of a listed one
 pub listed_has : (Q : List ℕ → Type 0) (rs : List (List ℕ)) (r : List ℕ) → AllByRecursion Q rs → is_listed rs r ≡ true → Q r
 listed_has Q [] r all h = absurd (false≢true h)
 listed_has Q (s ∷ rs) r all h = go (same_steps r s) refl h (λ k. listed_has Q rs r all.1 k) where

@@ -5,7 +5,7 @@ use Rattle.box_specs.specs.declared.certificate.Why.{Why}
 use Rattle.box_specs.specs.declared.certificate.Why.TheVariants.{WrongList}
 use Rattle.box_specs.specs.Validity.{is_listed, is_pass_line}
 
--- new is old with marks for some more recipes
+-- new is old with the marks of these recipes added
 pub record MarksMore (old new : List Bool) (recipes listed : List (List ℕ)) : Type 0 where
   pub long : length new ≡ length old
   pub each : (k : ℕ) → k < length listed

@@ -22,7 +22,7 @@ module _ (l : Land) where
   ClaimIsWithin NoMatch = Unit {0}
   ClaimIsWithin (Floor cost) = Unit {0}
 
-  -- the listed recipes are of the grid and rise
+  -- the listed recipes are of the grid, and in rising order
   pub record IsSorted (listed : List (List ℕ)) : Type 0 where
     pub grid : (k : ℕ) → k < length listed → IsWithin (slice_index_or listed k []) l.top
     pub rising : (i k : ℕ) → i < k → k < length listed → is_before l (slice_index_or listed i []) (slice_index_or listed k []) ≡ true

@@ -13,7 +13,7 @@ use crate::list::index_of;
 use box_core::{BoxR, CertLine, Claim, Judged, Landscape, StepsList, Why, corner_key, halves};
 use price_grid::Steps;
 
-/// None where a line holds, and else why it does not.
+/// `None` where a line holds, and else why it does not.
 fn unless(holds: bool, why: Why) -> Option<Why>
     ensures { result ≡ unless holds why None }
 {
@@ -41,7 +41,7 @@ fn is_dear<L: Landscape>(land: &L, claim: &Claim, listed: &StepsList, part: &Box
     }
 }
 
-/// Whether a recipe is that of a match.
+/// Whether the claim is a match of this recipe.
 fn is_claimed(claim: &Claim, steps: &Steps) -> bool
     ensures { result ≡ is_claimed claim.now steps.now.items }
 {

@@ -50,7 +50,8 @@ impl Waiting {
         Ok(())
     }
 
-    /// Adds the boxes that a line leaves to be judged: both halves of a box that is split.
+    /// Adds the boxes that wait for lines once this box has its line: both halves of one that is
+    /// split.
     pub(crate) fn put_after(&mut self, part: &BoxR, line: CertLine) -> Result<(), AllocError>
         requires { CanBeCut part.now line }
         ensures { IfOk result (λ _. self.new ≡ after part.now self.old line) }

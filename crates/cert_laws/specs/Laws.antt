@@ -25,7 +25,7 @@ module _ (l : Land) where
   abbrev pub ResultFits : Type 0
   ResultFits = IsLawful l → (budget : ℕ) → budget ≤ 1000000 → IsCertFor (length l.top.lo) (search_cert budget)
 
-  -- its text has less than 40,000,000 bytes
+  -- its text has fewer than 40,000,000 bytes
   abbrev pub ResultIsShort : Type 0
   ResultIsShort = IsLawful l → (budget : ℕ) → budget ≤ 1000000 → length (cert_text (search_cert budget)) < 40000000
 

@@ -34,7 +34,7 @@ pub enum JobRule {
     UnknownKey,
     /// A required key is absent.
     MissingKey,
-    /// A value of another kind.
+    /// A value of the wrong type.
     WrongKind,
     /// A number or a text out of its range.
     OutOfRange,

@@ -14,12 +14,12 @@ use crate::pair::JobPair;
 use crate::text::Text;
 use arrayvec::ArrayVec;
 
-/// A job: the curves, the lights, the dyes and the limits for which a recipe is searched.
+/// A job: the curves, the lights, the dyes and the limits for which a recipe is to be found.
 #[derive(Debug, Drop)]
 pub struct Job {
     /// The version of the format, 1.
     pub version: u32,
-    /// The file of curves.
+    /// The name of the file of curves.
     pub curves: Text,
     /// The name of the curve of the undyed cloth.
     pub substrate: Text,

@@ -17,7 +17,7 @@ use toml::Table;
 /// A light under which the cloth is judged.
 #[derive(Debug, Default, Drop)]
 pub struct JobLight {
-    /// The file of its weights.
+    /// The name of the file of its weights.
     pub weights: Text,
     /// The highest difference that passes, 0 to 100,000 thousandths.
     pub tolerance: u32,

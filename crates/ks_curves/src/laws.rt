@@ -1,17 +1,18 @@
 //! The laws of K/S and of a contribution. A call does nothing; what it ensures is the law.
 ghost use Rattle.ks_curves.specs.Laws.{KsEncloses, ContributionEncloses, ContributionNarrows, ContributionGrows};
 
-/// The law of [`ks`](crate::ks) in the scale.
+/// [`ks`](crate::ks) keeps enclosing where the scale grows.
 pub fn ks()
     ensures { KsEncloses }
 {}
 
-/// The law of [`contribution_range`](crate::contribution_range) in the scale.
+/// [`contribution_range`](crate::contribution_range) keeps enclosing where the scale grows.
 pub fn contribution_in_scale()
     ensures { ContributionEncloses }
 {}
 
-/// The law of [`contribution_range`](crate::contribution_range) in the range of steps.
+/// [`contribution_range`](crate::contribution_range) over a range of steps encloses that over any
+/// range within it.
 pub fn contribution_in_range()
     ensures { ContributionNarrows }
 {}

@@ -9,6 +9,6 @@ use Rattle.cielab_bounds.specs.Cielab.{LabEnds}
 pub some_standard : (Stands : LabEnds → Type 0) (p : LabEnds) → ∥ Stands p ∥₁ → ∥ ((q : LabEnds) × Stands q) ∥₁
 some_standard Stands p h = ∥∥₁_elim h ∥∥₁_prop (λ s. ∣ (p, s) ∣₁)
 
--- an interval that is known where it stands for a standard
+-- two intervals are the same, if that follows from a fact of which some proof exists
 pub same_ends : (A : Type 0) (a b : Ends) → ∥ A ∥₁ → (A → a ≡ b) → a ≡ b
 same_ends A a b h same = ∥∥₁_elim h (hlevel props) same

@@ -1,4 +1,4 @@
--- The laws of mixing: the sum of the laws of what is mixed.
+-- The laws of mixing, which follow from the laws of its operations.
 use Rattle.std.proofs.Common.{◌+◌, ◌-◌, ◌*◌, ◌/◌, ◌^◌, ◌≤◌, ◌<◌, ◌≤ℤ◌, ◌*ℤ◌, ℕ, ℤ, pos, negsuc, List, [], ◌∷◌, All, map, subst, sym, arith}
 use Rattle.std.specs.List.{AllZip}
 use Rattle.std.proofs.lemmas.Int.{ints}

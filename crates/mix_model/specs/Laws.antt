@@ -45,7 +45,7 @@ MixtureNarrows =
 abbrev pub IsNear : Ends → Ends → Type 0
 IsNear quick base = (pos (10 ^ 4) *ℤ quick.hi) <ℤ (base.hi +ℤ pos (10 ^ 12))
 
--- For up to 12 dyes within the units that can be mixed, the upper end of q is near at both scales.
+-- For up to 12 dyes, with units that can be mixed, the upper ends of q at both scales are near each other.
 abbrev pub QuickIsNear : Type 0
 QuickIsNear =
     (curve : List ℕ) (ps : List Portion) → IsCurve curve → length ps ≤ 12 → All (λ p. IsDye p.dye) ps → All (IsPortion (length curve)) ps

@@ -1,27 +1,28 @@
 //! The laws of the reflectance and of mixing. A call does nothing; what it ensures is the law.
 ghost use Rattle.mix_model.specs.Laws.{ReflectanceEncloses, ReflectanceNarrows, BaseEncloses, MixtureEncloses, MixtureNarrows, QuickIsNear};
 
-/// The law of [`reflect`](crate::reflect) in the scale.
+/// [`reflect`](crate::reflect) keeps enclosing where the scale grows and its K/S narrows.
 pub fn reflect_in_scale()
     ensures { ReflectanceEncloses }
 {}
 
-/// The law of [`reflect`](crate::reflect) in the range of K/S.
+/// [`reflect`](crate::reflect) of a range of K/S encloses that of any range within it.
 pub fn reflect_in_range()
     ensures { ReflectanceNarrows }
 {}
 
-/// The law of [`BaseCurve::of`](crate::BaseCurve::of) in the scale.
+/// [`BaseCurve::of`](crate::BaseCurve::of) keeps enclosing where the scale grows.
 pub fn base()
     ensures { BaseEncloses }
 {}
 
-/// The law of [`mix`](crate::mix) in the scale.
+/// [`mix`](crate::mix) keeps enclosing where the scale grows.
 pub fn mix_in_scale()
     ensures { MixtureEncloses }
 {}
 
-/// The law of [`mix`](crate::mix) in the ranges of steps.
+/// [`mix`](crate::mix) over ranges of steps encloses that over any ranges within them, and so that
+/// of each recipe.
 pub fn mix_in_range()
     ensures { MixtureNarrows }
 {}

@@ -57,7 +57,7 @@ pub fn mixture_ks<S: Scale>(
 /// The reflectances of a mixture: `lo` to `hi` steps of each dye, in the order of the dyes, on a
 /// base.
 ///
-/// For a single recipe, both are its steps.
+/// For a single recipe, `lo` and `hi` are both its steps.
 pub fn mix<S: Scale>(base: &BaseCurve<S>, dyes: &[Dye], lo: &[u16], hi: &[u16]) -> Spectrum<S>
     requires { CanMix S.unit base.now dyes.now lo.now hi.now }
     ensures is { result ≡ mixed_at S.unit base.now (portions dyes.now lo.now hi.now) }
