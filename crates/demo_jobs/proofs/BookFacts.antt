@@ -12,6 +12,6 @@ names_are [] = refl
 names_are (e ∷ entries) = ap (λ (ks : List (List ℕ)). string_bytes e.0 ∷ ks) (names_are entries)
 
 -- the percentages of a book, from the owned names
-pub percentages_are : (place : ℕ) (entries : List (String Global × List ℕ)) → map (λ e. number_field 4 (slice_index e.1 place)) entries ≡ map (percentage place) (book_of entries)
-percentages_are place [] = refl
-percentages_are place (e ∷ entries) = ap (λ (fs : List (List ℕ)). number_field 4 (slice_index e.1 place) ∷ fs) (percentages_are place entries)
+pub percentages_are : (index : ℕ) (entries : List (String Global × List ℕ)) → map (λ e. number_field 4 (slice_index e.1 index)) entries ≡ map (percentage index) (book_of entries)
+percentages_are index [] = refl
+percentages_are index (e ∷ entries) = ap (λ (fs : List (List ℕ)). number_field 4 (slice_index e.1 index) ∷ fs) (percentages_are index entries)

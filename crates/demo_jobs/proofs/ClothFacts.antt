@@ -1,14 +1,14 @@
--- The curves of cloths, place by place.
+-- The curves of cloths, wavelength by wavelength.
 use Rattle.std.proofs.Common.{◌+◌, ◌*◌, ◌/◌, ◌<◌, ◌≤◌, ℕ, map, max, sym, subst, arith, mul-le-mul_left}
 use Rattle.std.specs.List.{range_with_len}
 use Rattle.std.proofs.Math.Nat.{div-le_of_le-mul}
 use Rattle.std.proofs.lemmas.List.FromFn.{get_or-map-range_with_len, length-map-range_with_len}
 use Rattle.spectral_tables.specs.Curve.{IsCurve, IsReflectance}
 use Rattle.demo_jobs.specs.declared.dyes.DrawnDye.{DrawnDye}
-use Rattle.demo_jobs.specs.Cloths.{dyed, dyed_at, places, strength, substrate, substrate_at}
+use Rattle.demo_jobs.specs.Cloths.{dyed, dyed_at, indices, strength, substrate, substrate_at}
 
-pub substrate_reflects : (place : ℕ) → place < 31 → IsReflectance (substrate_at place)
-substrate_reflects place lt = (omega arith, omega arith)
+pub substrate_reflects : (index : ℕ) → index < 31 → IsReflectance (substrate_at index)
+substrate_reflects index lt = (omega arith, omega arith)
 
 -- a number over one of 1000 and more, times 1000
 darker : (x y : ℕ) → x * 1000 / (1000 + y) ≤ x
@@ -17,12 +17,12 @@ darker x y = let m : x * 1000 ≤ x * (1000 + y) = mul-le-mul_left x (omega arit
 pub raised : (x : ℕ) → x ≤ 1000000 → IsReflectance (max 100 x)
 raised x le = (omega arith, omega arith)
 
-pub dyed_reflects : (dye : DrawnDye) (units place : ℕ) → place < 31 → IsReflectance (dyed_at dye units place)
-dyed_reflects dye units place lt =
-    let y = strength dye place * units / 100 in
-    raised (substrate_at place * 1000 / (1000 + y)) (omega (arith, darker (substrate_at place) y))
+pub dyed_reflects : (dye : DrawnDye) (units index : ℕ) → index < 31 → IsReflectance (dyed_at dye units index)
+dyed_reflects dye units index lt =
+    let y = strength dye index * units / 100 in
+    raised (substrate_at index * 1000 / (1000 + y)) (omega (arith, darker (substrate_at index) y))
 
-pub is_curve : (f : ℕ → ℕ) → ((place : ℕ) → place < 31 → IsReflectance (f place)) → IsCurve (map f (range_with_len 0 31))
+pub is_curve : (f : ℕ → ℕ) → ((index : ℕ) → index < 31 → IsReflectance (f index)) → IsCurve (map f (range_with_len 0 31))
 is_curve f each = record {
   count = length-map-range_with_len f 0 31;
   range = λ k d lt.
@@ -31,9 +31,9 @@ is_curve f each = record {
 }
 
 pub substrate_is_curve : IsCurve substrate
-unfolding substrate places
+unfolding substrate indices
 substrate_is_curve = is_curve substrate_at substrate_reflects
 
 pub dyed_is_curve : (dye : DrawnDye) (units : ℕ) → IsCurve (dyed dye units)
-unfolding dyed places
+unfolding dyed indices
 dyed_is_curve dye units = is_curve (dyed_at dye units) (dyed_reflects dye units)

@@ -1,4 +1,4 @@
--- A curve file that was printed of a book of curves is read as that book.
+-- The curve file that is printed from a book of curves is read as that book.
 use Rattle.std.proofs.Common.{◌≡◌, ◌+◌, ◌*◌, ◌^◌, ◌<◌, ◌≤◌, ◌==◌, nat_le, nat_lt, true, ℕ, zero, suc, pos, Ok, List, [], ◌∷◌, ◌++◌, codes, length, map, refl, sym, ap, ◌∙◌, append_assoc, eq-eqb, arith}
 use Rattle.std.specs.Prelude.{slice_index}
 use Rattle.std.specs.List.{range_with_len}
@@ -13,7 +13,7 @@ use Rattle.spectral_tables.specs.CurveBook.{Book}
 use Rattle.spectral_tables.specs.CurveFile.{column_of, curve_table_of, curves_of, curves_under, names_of, next_reflectance, next_row, reflectance_of, row_of, rows_of}
 use Rattle.spectral_tables.specs.Faults.{each}
 use Rattle.spectral_tables.specs.Numbers.{is_wavelength}
-use Rattle.demo_jobs.specs.Cloths.{places}
+use Rattle.demo_jobs.specs.Cloths.{indices}
 use Rattle.demo_jobs.specs.CurveText.{curve_record, curve_records, curve_text, percentage}
 use Rattle.demo_jobs.specs.Lines.{number_field, wavelength_field}
 use Rattle.demo_jobs.proofs.PlainFields.{ArePlain, IsPlain, number_plain, trims_stay}
@@ -26,26 +26,26 @@ AreCurves (e ∷ book) = IsCurve e.1 × AreCurves book
 
 -- the values of a wavelength
 abbrev values : Book → ℕ → List ℕ
-values book place = map (λ e. slice_index e.1 place) book
+values book index = map (λ e. slice_index e.1 index) book
 
-pub value_at : (curve : List ℕ) (place : ℕ) → IsCurve curve → place < 31 → IsReflectance (slice_index curve place)
-value_at curve place kept lt = kept.range place 0 (omega (arith, lt, kept.count))
+pub value_at : (curve : List ℕ) (index : ℕ) → IsCurve curve → index < 31 → IsReflectance (slice_index curve index)
+value_at curve index kept lt = kept.range index 0 (omega (arith, lt, kept.count))
 
 -- ---- the records are plain
 
 field_plain : (m : ℕ) → m ≤ 1000000 → IsPlain (number_field 4 m)
 field_plain m le = number_plain 4 m (omega (arith, div-le_self m (10 ^ 4)))
 
-percentages_plain : (book : Book) (place : ℕ) → AreCurves book → place < 31 → ArePlain (map (percentage place) book)
-percentages_plain [] place kept lt = tt
-percentages_plain (e ∷ book) place kept lt = (field_plain (slice_index e.1 place) (value_at e.1 place kept.0 lt).1, percentages_plain book place kept.1 lt)
+percentages_plain : (book : Book) (index : ℕ) → AreCurves book → index < 31 → ArePlain (map (percentage index) book)
+percentages_plain [] index kept lt = tt
+percentages_plain (e ∷ book) index kept lt = (field_plain (slice_index e.1 index) (value_at e.1 index kept.0 lt).1, percentages_plain book index kept.1 lt)
 
-wavelength_plain : (place : ℕ) → place < 31 → IsPlain (wavelength_field place)
-wavelength_plain place lt = number_plain 0 (400 + 10 * place) (omega (arith, div-le_self (400 + 10 * place) (10 ^ 0)))
+wavelength_plain : (index : ℕ) → index < 31 → IsPlain (wavelength_field index)
+wavelength_plain index lt = number_plain 0 (400 + 10 * index) (omega (arith, div-le_self (400 + 10 * index) (10 ^ 0)))
 
-record_plain : (book : Book) (place : ℕ) → AreCurves book → place < 31 → ArePlain (curve_record book place)
+record_plain : (book : Book) (index : ℕ) → AreCurves book → index < 31 → ArePlain (curve_record book index)
 unfolding curve_record
-record_plain book place kept lt = (wavelength_plain place lt, percentages_plain book place kept lt)
+record_plain book index kept lt = (wavelength_plain index lt, percentages_plain book index kept lt)
 
 records_plain : (e : List ℕ × List ℕ) (book : Book) (k n : ℕ) → AreCurves (e ∷ book) → k + n ≤ 31 → AreRecords (map (curve_record (e ∷ book)) (range_with_len k n))
 unfolding curve_record
@@ -62,23 +62,23 @@ module _ (read : ReadsBack) where
       let high : nat_le m 1000000 ≡ true = le-leb m 1000000 range.1 in
       rw (read 4 (pos m) (omega (arith, range.1)), low, high) refl
 
-  percentages_read : (row place : ℕ) (book : Book) (before : List ℕ) → AreCurves book → place < 31 → each (next_reflectance row) before (map (percentage place) book) ≡ Ok (before ++ values book place)
-  percentages_read row place [] before kept lt = ap Ok (sym (append-nil before))
-  percentages_read row place (e ∷ book) before kept lt =
-      let m = slice_index e.1 place in
-      rw (percentage_read row (length before + 2) m (value_at e.1 place kept.0 lt))
-      (percentages_read row place book (before ++ m ∷ []) kept.1 lt ∙ ap Ok (append_assoc before (m ∷ []) (values book place)))
+  percentages_read : (row index : ℕ) (book : Book) (before : List ℕ) → AreCurves book → index < 31 → each (next_reflectance row) before (map (percentage index) book) ≡ Ok (before ++ values book index)
+  percentages_read row index [] before kept lt = ap Ok (sym (append-nil before))
+  percentages_read row index (e ∷ book) before kept lt =
+      let m = slice_index e.1 index in
+      rw (percentage_read row (length before + 2) m (value_at e.1 index kept.0 lt))
+      (percentages_read row index book (before ++ m ∷ []) kept.1 lt ∙ ap Ok (append_assoc before (m ∷ []) (values book index)))
 
-  wavelength_read : (place : ℕ) → place < 31 → is_wavelength (400 + 10 * place) (wavelength_field place) ≡ true
+  wavelength_read : (index : ℕ) → index < 31 → is_wavelength (400 + 10 * index) (wavelength_field index) ≡ true
   unfolding is_wavelength
-  wavelength_read place lt = rw (read 0 (pos (400 + 10 * place)) (omega arith)) (eq-eqb (400 + 10 * place) (400 + 10 * place) refl)
+  wavelength_read index lt = rw (read 0 (pos (400 + 10 * index)) (omega arith)) (eq-eqb (400 + 10 * index) (400 + 10 * index) refl)
 
-  record_read : (book : Book) (columns place : ℕ) → columns ≡ length book + 1 → AreCurves book → place < 31 → row_of columns place (curve_record book place) ≡ Ok (values book place)
+  record_read : (book : Book) (columns index : ℕ) → columns ≡ length book + 1 → AreCurves book → index < 31 → row_of columns index (curve_record book index) ≡ Ok (values book index)
   unfolding row_of curve_record
-  record_read book columns place count kept lt =
-      let within : nat_lt place 31 ≡ true = lt-ltb place 31 lt in
-      let as_many : (length (wavelength_field place ∷ map (percentage place) book) == columns) ≡ true = eq-eqb _ columns (omega (arith, count, length-map book (percentage place))) in
-      rw (within, as_many, wavelength_read place lt) (percentages_read (place + 2) place book [] kept lt)
+  record_read book columns index count kept lt =
+      let index_fits : nat_lt index 31 ≡ true = lt-ltb index 31 lt in
+      let as_many : (length (wavelength_field index ∷ map (percentage index) book) == columns) ≡ true = eq-eqb _ columns (omega (arith, count, length-map book (percentage index))) in
+      rw (index_fits, as_many, wavelength_read index lt) (percentages_read (index + 2) index book [] kept lt)
 
   rows_read : (book : Book) (columns k n : ℕ) (before : List (List ℕ)) → columns ≡ length book + 1 → AreCurves book → length before ≡ k → k + n ≤ 31
       → each (next_row columns) before (map (curve_record book) (range_with_len k n)) ≡ Ok (before ++ map (values book) (range_with_len k n))
@@ -90,40 +90,40 @@ module _ (read : ReadsBack) where
       let there = rows_read book columns (k + 1) n (before ++ this ∷ []) count kept (omega (arith, length-append before (this ∷ []))) (omega arith) in
       rw (trims_stay (curve_record book k) (record_plain book k kept lt), at, here) (there ∙ ap Ok (append_assoc before (this ∷ []) (map (values book) (range_with_len (k + 1) n))))
 
-  all_rows : (book : Book) (columns : ℕ) → columns ≡ length book + 1 → AreCurves book → rows_of columns (map (curve_record book) places) ≡ Ok (map (values book) places)
-  unfolding rows_of places
+  all_rows : (book : Book) (columns : ℕ) → columns ≡ length book + 1 → AreCurves book → rows_of columns (map (curve_record book) indices) ≡ Ok (map (values book) indices)
+  unfolding rows_of indices
   all_rows book columns count kept =
       rw (rows_read book columns 0 31 [] count kept refl (omega arith)) refl
 
   -- ---- the columns
 
-  -- the value behind those of other curves
-  behind : (before : Book) (e : List ℕ × List ℕ) (rest : Book) (place : ℕ) → slice_index (values (before ++ e ∷ rest) place) (length before) ≡ slice_index e.1 place
-  behind [] e rest place = refl
-  behind (b ∷ before) e rest place = behind before e rest place
+  -- the value after those of other curves
+  after_others : (before : Book) (e : List ℕ × List ℕ) (rest : Book) (index : ℕ) → slice_index (values (before ++ e ∷ rest) index) (length before) ≡ slice_index e.1 index
+  after_others [] e rest index = refl
+  after_others (b ∷ before) e rest index = after_others before e rest index
 
-  column : (before : Book) (e : List ℕ × List ℕ) (rest : Book) (ps : List ℕ) → column_of (length before) (map (values (before ++ e ∷ rest)) ps) ≡ map (λ place. slice_index e.1 place) ps
+  column : (before : Book) (e : List ℕ × List ℕ) (rest : Book) (ps : List ℕ) → column_of (length before) (map (values (before ++ e ∷ rest)) ps) ≡ map (λ index. slice_index e.1 index) ps
   column before e rest [] = refl
-  column before e rest (p ∷ ps) = λ i. behind before e rest p i ∷ column before e rest ps i
+  column before e rest (p ∷ ps) = λ i. after_others before e rest p i ∷ column before e rest ps i
 
-  whole_curve : (curve : List ℕ) → IsCurve curve → map (λ place. slice_index curve place) places ≡ curve
-  unfolding places
-  whole_curve curve kept = sym (fill_by_all (λ place. slice_index curve place) curve 31 0 kept.count (λ k lt. refl))
+  whole_curve : (curve : List ℕ) → IsCurve curve → map (λ index. slice_index curve index) indices ≡ curve
+  unfolding indices
+  whole_curve curve kept = sym (fill_by_all (λ index. slice_index curve index) curve 31 0 kept.count (λ k lt. refl))
 
-  columns_are : (before rest : Book) → AreCurves rest → curves_under before (map (values (before ++ rest)) places) (keys_of rest) ≡ before ++ rest
+  columns_are : (before rest : Book) → AreCurves rest → curves_under before (map (values (before ++ rest)) indices) (keys_of rest) ≡ before ++ rest
   columns_are before [] kept = sym (append-nil before)
   columns_are before (e ∷ rest) kept =
-      let found : column_of (length before) (map (values (before ++ e ∷ rest)) places) ≡ e.1 = column before e rest places ∙ whole_curve e.1 kept.0 in
+      let found : column_of (length before) (map (values (before ++ e ∷ rest)) indices) ≡ e.1 = column before e rest indices ∙ whole_curve e.1 kept.0 in
       let all : (before ++ e ∷ []) ++ rest ≡ before ++ e ∷ rest = append_assoc before (e ∷ []) rest in
       let there = columns_are (before ++ e ∷ []) rest kept.1 in
-      ap (λ c. curves_under (before ++ (e.0, c) ∷ []) (map (values (before ++ e ∷ rest)) places) (keys_of rest)) found
-      ∙ ap (λ whole. curves_under (before ++ e ∷ []) (map (values whole) places) (keys_of rest)) (sym all) ∙ there ∙ all
+      ap (λ c. curves_under (before ++ (e.0, c) ∷ []) (map (values (before ++ e ∷ rest)) indices) (keys_of rest)) found
+      ∙ ap (λ whole. curves_under (before ++ e ∷ []) (map (values whole) indices) (keys_of rest)) (sym all) ∙ there ∙ all
 
   -- ---- the file
 
   pub book_read : (e : List ℕ × List ℕ) (book : Book) → AreCurves (e ∷ book) → ArePlain (keys_of (e ∷ book)) → names_of (codes "nm" ∷ keys_of (e ∷ book)) ≡ Ok (keys_of (e ∷ book))
       → curve_table_of (curve_text (e ∷ book)) ≡ Ok (e ∷ book)
-  unfolding curve_text curve_records curves_of places
+  unfolding curve_text curve_records curves_of indices
   book_read e book kept plain names =
       let whole = e ∷ book in
       let records = map (curve_record whole) (range_with_len 0 31) in

@@ -10,10 +10,10 @@ use Rattle.dec_text.specs.FixedPoint.{behind_point, fixed_text, last_digits, uns
 use Rattle.spectral_tables.specs.CurveBook.{Book}
 use Rattle.demo_jobs.specs.declared.weights.Light.{Light}
 use Rattle.demo_jobs.specs.declared.weights.Light.TheVariants.{First, Second}
-use Rattle.demo_jobs.specs.Cloths.{places}
+use Rattle.demo_jobs.specs.Cloths.{indices}
 use Rattle.demo_jobs.specs.CurveText.{curve_record, curve_records, curve_text, dye_book, dye_name, dyeing_name, job_book, percentage}
 use Rattle.demo_jobs.specs.Dyes.{drawn_dyes}
-use Rattle.demo_jobs.specs.Lines.{behind_commas, line, number_field, table_text, wavelength_field}
+use Rattle.demo_jobs.specs.Lines.{after_commas, line, number_field, table_text, wavelength_field}
 use Rattle.demo_jobs.specs.WeightsText.{weights_at, weights_records, weights_text, white_of}
 use Rattle.demo_jobs.proofs.CurvesRead.{AreCurves, value_at}
 use Rattle.demo_jobs.proofs.JobBookRead.{job_curves}
@@ -21,7 +21,7 @@ use Rattle.demo_jobs.proofs.JobBookRead.{job_curves}
 -- ---- the weights
 
 pub weights_short : (light : Light) → length (weights_text light) ≤ 1000000
-unfolding weights_text weights_records weights_at white_of places table_text line behind_commas fixed_text unsigned_text behind_point last_digits digits
+unfolding weights_text weights_records weights_at white_of indices table_text line after_commas fixed_text unsigned_text behind_point last_digits digits
 weights_short First = omega arith
 weights_short Second = omega arith
 
@@ -37,24 +37,24 @@ unfolding fixed_text unsigned_text behind_point
 percentage_short m le =
     omega (arith, length-append (decimal (m / 10 ^ 4)) (46 ∷ last_digits 4 m), length-decimal-le 3 (m / 10 ^ 4) (omega arith) (omega arith) (omega arith), length-last 4 m)
 
-wavelength_short : (place : ℕ) → place < 31 → length (wavelength_field place) ≤ 3
+wavelength_short : (index : ℕ) → index < 31 → length (wavelength_field index) ≤ 3
 unfolding fixed_text unsigned_text behind_point
-wavelength_short place lt =
-    let n = (400 + 10 * place) / 10 ^ 0 in
+wavelength_short index lt =
+    let n = (400 + 10 * index) / 10 ^ 0 in
     omega (arith, length-append (decimal n) [], length-decimal-le 3 n (omega arith) (omega arith) (omega arith))
 
-percentages_short : (book : Book) (place : ℕ) → AreCurves book → place < 31 → length (behind_commas (map (percentage place) book)) ≤ 9 * length book
-unfolding behind_commas
-percentages_short [] place kept lt = omega arith
-percentages_short (e ∷ book) place kept lt =
-    let field = percentage place e in
-    omega (arith, length-append (44 ∷ field) (behind_commas (map (percentage place) book)), percentage_short (slice_index e.1 place) (value_at e.1 place kept.0 lt).1, percentages_short book place kept.1 lt)
+percentages_short : (book : Book) (index : ℕ) → AreCurves book → index < 31 → length (after_commas (map (percentage index) book)) ≤ 9 * length book
+unfolding after_commas
+percentages_short [] index kept lt = omega arith
+percentages_short (e ∷ book) index kept lt =
+    let field = percentage index e in
+    omega (arith, length-append (44 ∷ field) (after_commas (map (percentage index) book)), percentage_short (slice_index e.1 index) (value_at e.1 index kept.0 lt).1, percentages_short book index kept.1 lt)
 
-record_short : (book : Book) (place : ℕ) → AreCurves book → place < 31 → length (line (curve_record book place)) ≤ 4 + 9 * length book
+record_short : (book : Book) (index : ℕ) → AreCurves book → index < 31 → length (line (curve_record book index)) ≤ 4 + 9 * length book
 unfolding line curve_record
-record_short book place kept lt =
-    let fields = behind_commas (map (percentage place) book) in
-    omega (arith, length-append (wavelength_field place) (fields ++ 10 ∷ []), length-append fields (10 ∷ []), wavelength_short place lt, percentages_short book place kept lt)
+record_short book index kept lt =
+    let fields = after_commas (map (percentage index) book) in
+    omega (arith, length-append (wavelength_field index) (fields ++ 10 ∷ []), length-append fields (10 ∷ []), wavelength_short index lt, percentages_short book index kept lt)
 
 records_short : (book : Book) (most k n : ℕ) → AreCurves book → 4 + 9 * length book ≤ most → k + n ≤ 31 → length (flat_map line (map (curve_record book) (range_with_len k n))) ≤ n * most
 records_short book most k zero kept enough le = omega arith
@@ -63,7 +63,7 @@ records_short book most k (suc n) kept enough le =
     omega (arith, length-append (line (curve_record book k)) rest, record_short book k kept (omega arith), records_short book most (k + 1) n kept enough (omega arith))
 
 header_short : (draws : List ℕ) → length (line (codes "nm" ∷ keys_of (job_book draws))) ≤ 1000
-unfolding line behind_commas job_book dye_book drawn_dyes dye_name dyeing_name digits
+unfolding line after_commas job_book dye_book drawn_dyes dye_name dyeing_name digits
 header_short draws = omega arith
 
 book_short : (draws : List ℕ) → length (job_book draws) ≤ 26
@@ -71,7 +71,7 @@ unfolding job_book dye_book drawn_dyes
 book_short draws = omega arith
 
 pub curves_short : (draws : List ℕ) → length (curve_text (job_book draws)) ≤ 1000000
-unfolding curve_text curve_records table_text places
+unfolding curve_text curve_records table_text indices
 curves_short draws =
     let header = line (codes "nm" ∷ keys_of (job_book draws)) in
     let rest = flat_map line (map (curve_record (job_book draws)) (range_with_len 0 31)) in

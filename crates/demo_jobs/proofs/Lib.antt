@@ -1,4 +1,4 @@
-mod Places
+mod ListFacts
 mod DrawFacts
 mod LineFacts
 mod ClothFacts

@@ -1,4 +1,4 @@
--- Fields that stand in a table as they are: without a comma, a quote, a line's end or a blank.
+-- Fields that are written in a table unchanged: without a comma, a quote, a line's end or a blank.
 use Rattle.std.proofs.Common.{◌≡◌, ◌+◌, ◌/◌, ◌%◌, ◌^◌, ◌<◌, ◌&&◌, not, Bool, true, false, ℕ, zero, suc, List, [], ◌∷◌, ◌++◌, decimal, reverse, refl, sym, subst, arith, mod-lt, lit<}
 use Rattle.std.specs.List.{list_all, list_any}
 use Rattle.std.proofs.lemmas.Bool.{and_parts}
@@ -26,7 +26,7 @@ pub plain-append : (xs ys : List ℕ) → IsPlain xs → IsPlain ys → IsPlain 
 plain-append [] ys hx hy = hy
 plain-append (x ∷ xs) ys hx hy = (hx.0, plain-append xs ys hx.1 hy)
 
--- by a test
+-- from a Boolean test
 pub plain_by : (field : List ℕ) → list_all is_plain field ≡ true → IsPlain field
 plain_by [] h = tt
 plain_by (b ∷ bs) h = let (here, there) = and_parts (is_plain b) (list_all is_plain bs) h in (here, plain_by bs there)
@@ -50,14 +50,14 @@ unfolding last_digits
 last_plain zero n = tt
 last_plain (suc k) n = (digit_plain (n / 10 ^ k % 10) (mod-lt (n / 10 ^ k) (lit< {m = 0} {n = 10} tt)), last_plain k n)
 
-behind_plain : (k n : ℕ) → IsPlain (behind_point k n)
+after_plain : (k n : ℕ) → IsPlain (behind_point k n)
 unfolding behind_point
-behind_plain zero n = tt
-behind_plain (suc k) n = (refl, last_plain (suc k) n)
+after_plain zero n = tt
+after_plain (suc k) n = (refl, last_plain (suc k) n)
 
 pub number_plain : (decimals n : ℕ) → n / 10 ^ decimals < 2 ^ 64 → IsPlain (number_field decimals n)
 unfolding fixed_text unsigned_text
-number_plain decimals n lt = plain-append (decimal (n / 10 ^ decimals)) (behind_point decimals n) (decimal_plain (n / 10 ^ decimals) lt) (behind_plain decimals n)
+number_plain decimals n lt = plain-append (decimal (n / 10 ^ decimals)) (behind_point decimals n) (decimal_plain (n / 10 ^ decimals) lt) (after_plain decimals n)
 
 -- ---- no blanks are trimmed
 
@@ -83,7 +83,7 @@ pub trims_stay : (fields : List (List ℕ)) → ArePlain fields → trimmed_fiel
 trims_stay [] h = refl
 trims_stay (f ∷ fs) h = λ i. trim_stays f h.0 i ∷ trims_stay fs h.1 i
 
--- ---- nor is a field quoted
+-- ---- no field is quoted
 
 pub unquoted : (field : List ℕ) → IsPlain field → list_any (needs_byte default_writer) field ≡ false
 unquoted [] h = refl

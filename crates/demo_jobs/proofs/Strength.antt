@@ -19,7 +19,7 @@ use Rattle.demo_jobs.specs.Cloths.{dyed, substrate}
 use Rattle.demo_jobs.specs.Standard.{dye_data, measured}
 use Rattle.demo_jobs.proofs.ClothFacts.{dyed_is_curve, substrate_is_curve}
 
--- the reflectance of a curve at a place
+-- the reflectance of a curve at a wavelength index
 reflects : (curve : List ℕ) (wave : ℕ) → IsCurve curve → wave < 31 → IsReflectance (slice_index curve wave)
 reflects curve wave kept lt = kept.range wave 0 (omega (arith, lt, kept.count))
 

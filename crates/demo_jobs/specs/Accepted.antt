@@ -13,7 +13,7 @@ use Rattle.demo_jobs.specs.JobTable.{job_table}
 use Rattle.demo_jobs.specs.Values.{both_weights, job_values, resolved_of, weight_table}
 use Rattle.demo_jobs.specs.WeightsText.{weights_text}
 
--- each table is no longer than its reader takes and is read, the job is read both where it may have no batch and where it may
+-- each table is no longer than its reader allows and is read; the job is read both where it must have no batch and where it may
 -- have one, and it resolves
 pub record IsAccepted (drawn : List ℕ) (job curves first second : List ℕ) : Type 0 where
   pub curves_short : length curves ≤ 1000000
@@ -26,7 +26,7 @@ pub record IsAccepted (drawn : List ℕ) (job curves first second : List ℕ) : 
   pub job_read_with_batch : job_of Either job ≡ Ok (job_values (drawn_dyes drawn))
   pub job_resolved : resolved_job (job_book drawn) (job_values (drawn_dyes drawn)) both_weights ≡ Ok (resolved_of drawn)
 
--- the texts of every number are accepted, with any text that writes the job's table
+-- the texts for every number are accepted, with any text that reads as the job's table
 abbrev pub JobsAreAccepted : Type 0
 JobsAreAccepted =
     (number : ℕ) (job : List ℕ) → tree_of job ≡ Some (job_table (drawn_dyes (draws number)))

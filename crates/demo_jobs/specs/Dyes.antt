@@ -1,10 +1,10 @@
--- The dyes that are drawn, and the recipe that the standard is made by.
+-- The dyes of a job, drawn at random, and the hidden recipe that makes the standard.
 use Rattle.std.specs.Prelude.{ℕ, ◌+◌, ◌*◌, ◌/◌, ◌%◌, ◌==◌, ◌≤◌, List, map, if◌then◌else◌}
 use Rattle.std.specs.List.{range_with_len}
 use Rattle.demo_jobs.specs.declared.dyes.DrawnDye.{DrawnDye}
 use Rattle.demo_jobs.specs.Draws.{draw}
 
--- the dye of an index: its centre and height, its price and its fee are drawn in this order
+-- the dye at an index: its centre, height, price and fee are drawn in this order
 abbrev pub drawn_dye : List ℕ → ℕ → DrawnDye
 drawn_dye draws index = record {
   number = index + 1;
@@ -18,16 +18,16 @@ drawn_dye draws index = record {
 unfoldable pub drawn_dyes : List ℕ → List DrawnDye
 drawn_dyes draws = map (drawn_dye draws) (range_with_len 0 6)
 
--- the steps of the dye of an index in the hidden recipe: of each two dyes one is drawn, and then 20 to 119 steps of it
+-- the steps of the dye at an index in the hidden recipe: of each pair of dyes one is drawn, and then 20 to 119 steps of it
 abbrev pub hidden_steps : List ℕ → ℕ → ℕ
 hidden_steps draws index =
     if draw draws (24 + index / 2 * 2) 2 == index % 2 then 20 + draw draws (24 + index / 2 * 2 + 1) 100 else 0
 
--- the recipe that the standard is made by
+-- the recipe that makes the standard
 unfoldable pub hidden_recipe : List ℕ → List ℕ
 hidden_recipe draws = map (hidden_steps draws) (range_with_len 0 6)
 
--- the ranges of a dye that was drawn
+-- the ranges of a drawn dye
 pub record IsDrawn (dye : DrawnDye) : Type 0 where
   pub number : dye.number ≤ 6
   pub height : dye.height ≤ 399

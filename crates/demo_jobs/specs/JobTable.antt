@@ -10,23 +10,23 @@ use Rattle.demo_jobs.specs.Standard.{dyeing_units}
 abbrev pub whole : ℕ → Data
 whole number = integer (pos number)
 
--- tables in turn
+-- an array of tables
 abbrev pub tables : List Members → Data
 tables list = array (items_of (map table list))
 
--- a light: its file, and its tolerance in thousandths. The keys of a table stand in the order of their bytes
+-- a light: its weights file, and its tolerance in thousandths. The keys of a table are in the order of their bytes
 unfoldable pub light_table : List ℕ → ℕ → Members
 light_table weights tolerance = member (codes "tolerance") (whole tolerance) (member (codes "weights") (string weights) no_members)
 
--- a dyeing of the dye of a number: its own number, and its units
+-- a dyeing, given as its number and its units, of the dye with a number
 unfoldable pub dyeing_table : ℕ → ℕ × ℕ → Members
 dyeing_table dye dyeing = member (codes "curve") (string (dyeing_name dye dyeing.0)) (member (codes "units") (whole dyeing.1) no_members)
 
--- the dyeings of the dye of a number
+-- the dyeings of the dye with a number
 unfoldable pub dyeing_tables : ℕ → List Members
 dyeing_tables dye = map (dyeing_table dye) dyeing_units
 
--- a dye, of which up to 400 steps of 10 units may be weighed out
+-- a dye, of which up to 400 steps of 10 units each may be weighed out
 unfoldable pub dye_table : DrawnDye → Members
 dye_table dye =
     member (codes "dyeing") (tables (dyeing_tables dye.number))
@@ -40,7 +40,7 @@ dye_table dye =
 unfoldable pub light_tables : List Members
 light_tables = light_table (codes "demo1.csv") 1000 ∷ light_table (codes "demo2.csv") 1500 ∷ []
 
--- a job of these dyes
+-- a job with these dyes
 unfoldable pub job_table : List DrawnDye → Members
 job_table dyes =
     member (codes "budget") (whole 20000)

@@ -1,26 +1,26 @@
--- The text of a table: its records in turn, each on a line, with a comma between its fields.
+-- The text of a table: its records in order, each on a line, with commas between its fields.
 use Rattle.std.specs.Prelude.{ℕ, pos, ◌+◌, ◌*◌, List, [], ◌∷◌, ◌++◌}
 use Rattle.std.specs.List.{flat_map}
 use Rattle.dec_text.specs.FixedPoint.{fixed_text}
 
--- fields, each behind a comma
-unfoldable pub behind_commas : List (List ℕ) → List ℕ
-behind_commas [] = []
-behind_commas (field ∷ fields) = 44 ∷ field ++ behind_commas fields
+-- fields, each after a comma
+unfoldable pub after_commas : List (List ℕ) → List ℕ
+after_commas [] = []
+after_commas (field ∷ fields) = 44 ∷ field ++ after_commas fields
 
 -- a record, with its line feed
 unfoldable pub line : List (List ℕ) → List ℕ
 line [] = 10 ∷ []
-line (first ∷ fields) = first ++ (behind_commas fields ++ 10 ∷ [])
+line (first ∷ fields) = first ++ (after_commas fields ++ 10 ∷ [])
 
--- all records
+-- the lines of all records
 unfoldable pub table_text : List (List (List ℕ)) → List ℕ
 table_text records = flat_map line records
 
--- a number from 0 on that is counted in its last decimal
+-- a natural number that is given in units of its last decimal place
 abbrev pub number_field : ℕ → ℕ → List ℕ
 number_field decimals number = fixed_text decimals (pos number)
 
--- the wavelength of a place, in nanometres
+-- the field of a wavelength, in nanometres, from its index
 abbrev pub wavelength_field : ℕ → List ℕ
-wavelength_field place = number_field 0 (400 + 10 * place)
+wavelength_field index = number_field 0 (400 + 10 * index)

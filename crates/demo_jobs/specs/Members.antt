@@ -1,10 +1,10 @@
--- What putting a value under a key makes of the members of a table.
+-- The members of a table after a value was put under a key.
 use Rattle.std.specs.Prelude.{ℕ, List}
 use Rattle.std.specs.Cmp.Lexicographic.{slice_cmp}
 use Rattle.std.specs.Ordering.{match_ordering, nat_cmp}
 use Rattle.toml.specs.Data.{Data, Members, member, no_members}
 
--- the value takes the place of the one under that key, or stands before the first greater key
+-- the value replaces the one under that key, or is put before the first greater key
 abbrev pub insert_member : List ℕ → Data → Members → Members
 insert_member key value no_members = member key value no_members
 insert_member key value (member other old rest) =

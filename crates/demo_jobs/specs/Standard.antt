@@ -1,4 +1,4 @@
--- The calibration of the dyes that were drawn, and the curve that is to be matched.
+-- The calibration of the drawn dyes, and the curve that is to be matched.
 use Rattle.std.specs.Prelude.{ℕ, ◌/◌, ◌^◌, max, List, [], ◌∷◌, map, unsigned_abs}
 use Rattle.interval_specs.specs.Ends.{Ends}
 use Rattle.ks_curves.specs.Dye.{Dyeing, DyeData}
@@ -11,18 +11,18 @@ use Rattle.demo_jobs.specs.Cloths.{dyed, substrate}
 abbrev pub dyeing_units : List (ℕ × ℕ)
 dyeing_units = (1, 200) ∷ (2, 500) ∷ (3, 1000) ∷ (4, 2000) ∷ []
 
--- a dyeing with so many units, and its curve
+-- a dyeing with a dye, by its units: the units and its curve
 abbrev pub measured : DrawnDye → ℕ → Dyeing
 measured dye units = (units, dyed dye units)
 
--- a dye by its dyeings of the undyed cloth, in steps of 10 units
+-- a dye, calibrated by its dyeings of the undyed cloth, in steps of 10 units
 unfoldable pub dye_data : DrawnDye → DyeData
 dye_data dye = record { step = 10; substrate = substrate; dyeings = map (λ d. measured dye d.1) dyeing_units }
 
--- the millionths of the lower end of a reflectance at scale 10^12: at least 100
+-- the lower end of a reflectance at scale 10^12, in millionths: at least 100
 abbrev pub standard_at : Ends → ℕ
 standard_at reflectance = max 100 (unsigned_abs reflectance.lo / 10 ^ 6)
 
--- the curve of so many steps of each dye on the undyed cloth
+-- the curve of the undyed cloth dyed with these steps of each dye
 unfoldable pub standard : List DrawnDye → List ℕ → List ℕ
 standard dyes steps = map standard_at (mixed_at (10 ^ 12) (base_at (10 ^ 12) substrate) (portions (map dye_data dyes) steps steps))

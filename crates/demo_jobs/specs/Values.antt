@@ -1,4 +1,4 @@
--- What reading and resolving make of the texts of a generated job.
+-- The results of reading and resolving the texts of a generated job.
 use Rattle.std.specs.Prelude.{ℕ, ◌*◌, pos, None, List, [], ◌∷◌, codes, map}
 use Rattle.job_file.specs.Job.{Values}
 use Rattle.job_file.specs.Resolve.{ResolvedJob, cost_of_dye, limits_of}
@@ -7,13 +7,13 @@ use Rattle.spectral_tables.specs.WeightTable.{WeightTable}
 use Rattle.demo_jobs.specs.declared.dyes.DrawnDye.{DrawnDye}
 use Rattle.demo_jobs.specs.declared.weights.Light.{Light}
 use Rattle.demo_jobs.specs.declared.weights.Light.TheVariants.{First, Second}
-use Rattle.demo_jobs.specs.Cloths.{places, substrate}
+use Rattle.demo_jobs.specs.Cloths.{indices, substrate}
 use Rattle.demo_jobs.specs.CurveText.{dye_name, dyeing_name}
 use Rattle.demo_jobs.specs.Dyes.{drawn_dyes, hidden_recipe}
 use Rattle.demo_jobs.specs.Standard.{dye_data, dyeing_units, standard}
 use Rattle.demo_jobs.specs.WeightsText.{weights_at, white_of}
 
--- how many hundred-thousandths the last decimal of a light's weights counts
+-- how many hundred-thousandths a unit of the last decimal place of a light's weights is
 abbrev pub unit_of : Light → ℕ
 unit_of First = 100000
 unit_of Second = 10000
@@ -21,11 +21,11 @@ unit_of Second = 10000
 -- the weights of a light, in hundred-thousandths
 unfoldable pub weight_table : Light → WeightTable
 weight_table light = record {
-  weights = map (λ place. map (λ weight. pos (weight * unit_of light)) (weights_at light place)) places;
+  weights = map (λ index. map (λ weight. pos (weight * unit_of light)) (weights_at light index)) indices;
   white = map (λ weight. pos (weight * unit_of light)) (white_of light);
 }
 
--- those of both lights
+-- the weights of both lights
 abbrev pub both_weights : List WeightTable
 both_weights = weight_table First ∷ weight_table Second ∷ []
 
@@ -41,7 +41,7 @@ job_dye d = record {
   dyeing = record { items = map (λ p. record { units = p.1; curve = dyeing_name d.number p.0 }) dyeing_units };
 }
 
--- the job of these dyes
+-- the job with these dyes
 abbrev pub job_values : List DrawnDye → Values
 job_values dyes = record {
   head = record {
@@ -62,7 +62,7 @@ job_values dyes = record {
   batch = None;
 }
 
--- what the job of these draws comes to
+-- the resolved job of these draws
 abbrev pub resolved_of : List ℕ → ResolvedJob
 resolved_of draws = record {
   job = job_values (drawn_dyes draws);

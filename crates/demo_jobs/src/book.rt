@@ -1,4 +1,4 @@
-//! The curves of a job, by their names.
+//! The curves of a job, under their names.
 
 ghost use Rattle.std.specs.Prelude.{◌≡◌, ◌++◌, All, IfOk, OnOk, length, string_bytes};
 ghost use Rattle.std.specs.List.{flat_map};
@@ -61,7 +61,7 @@ fn push_dyes(alloc: Global, book: &mut Named, dyes: &[DrawnDye]) -> Result<(), A
     Ok(())
 }
 
-/// The curves of the job of these draws.
+/// The curves of the job that these draws make.
 #[tactic(auto, unfolding(crate::specs::CurveText::job_book))]
 pub(crate) fn job_book(alloc: Global, draws: &[u32]) -> Result<Named, AllocError>
     requires { length draws.now ≡ 30 }

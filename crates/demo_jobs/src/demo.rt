@@ -1,4 +1,4 @@
-//! The texts of a generated job.
+//! A generated job, as the texts of its files.
 
 ghost use Rattle.std.specs.Prelude.{◌≡◌, ℕ, IfOk, Some};
 ghost use Rattle.job_file.specs.Job.{tree_of};
@@ -21,7 +21,7 @@ use crate::weights_file::weights_text;
 use std::alloc::{AllocError, Global};
 use std::marker::Model;
 
-/// A text, which contracts see as its bytes.
+/// A text. Contracts see it as the list of its bytes.
 #[derive(Debug, Drop)]
 pub struct Bytes {
     list: Vec<u8>,
@@ -51,7 +51,7 @@ impl Bytes {
     }
 }
 
-/// A generated job: its text and those of the files that it names, as they would stand on a shelf.
+/// A generated job: its text, and the texts of the files that it names.
 #[derive(Debug, Drop)]
 pub struct Demo {
     /// The job, in TOML.
@@ -64,14 +64,16 @@ pub struct Demo {
     pub second: Bytes,
 }
 
-/// The job of a number. Its text is one that writes the job's table; the other three are given byte
-/// by byte. All four are accepted by the readers, and the job by `resolve`.
+/// Makes the job with a number. The contract says which table the job's text reads as, and gives
+/// every byte of the other three texts. The readers accept all four texts, and `resolve` accepts
+/// the job.
 pub fn make(alloc: Global, number: u32) -> Result<Demo, AllocError>
     ensures job { IfOk result (λ d. tree_of d.job ≡ Some (job_table (drawn_dyes (draws number)))) }
     ensures curves { IfOk result (λ d. d.curves ≡ curve_text (job_book (draws number))) }
     ensures first { IfOk result (λ d. d.first ≡ weights_text First) }
     ensures second { IfOk result (λ d. d.second ≡ weights_text Second) }
-    ensures accepted { IfOk result (λ d. IsAccepted (draws number) d.job d.curves d.first d.second) }
+    ensures accepted { IfOk result
+        (λ d. IsAccepted (draws number) d.job d.curves d.first d.second) }
 {
     laws::accepted();
     let draws = draws(number);

@@ -1,4 +1,4 @@
-//! The numbers that a job is drawn by.
+//! The pseudo-random numbers that a job is made from.
 
 ghost use Rattle.std.specs.Prelude.{◌≡◌, ◌<◌, length};
 ghost use Rattle.demo_jobs.specs.Draws.{draw, drawn, draws, next_state};
@@ -8,7 +8,7 @@ use arrayvec::ArrayVec;
 /// How many draws a job takes: four for each dye, and two for each dye of the hidden recipe.
 pub(crate) const DRAWS: usize = 30;
 
-/// The state after a state.
+/// The next state of the generator.
 #[tactic(auto, unfolding(crate::specs::Draws::next_state))]
 fn next_state(state: u64) -> u64
     ensures { result ≡ next_state state }
@@ -18,7 +18,7 @@ fn next_state(state: u64) -> u64
         .wrapping_add(1_442_695_040_888_963_407)
 }
 
-/// What is drawn from a state: its upper 31 bits.
+/// The number drawn from a state: its upper 31 bits.
 #[tactic(auto, unfolding(crate::specs::Draws::drawn))]
 fn drawn(state: u64) -> u32
     ensures { result ≡ drawn state }
@@ -26,7 +26,7 @@ fn drawn(state: u64) -> u32
     (state >> 33) as u32
 }
 
-/// The draws of the job of a number, in turn.
+/// The draws for the job with a number, in order.
 #[tactic(auto, unfolding(crate::specs::Draws::draws))]
 pub(crate) fn draws(number: u32) -> ArrayVec<u32, DRAWS>
     ensures is { result.items ≡ draws number }
@@ -41,7 +41,7 @@ pub(crate) fn draws(number: u32) -> ArrayVec<u32, DRAWS>
     draws
 }
 
-/// The draw of an index, as a number below `n`.
+/// The draw at an index, reduced to a number below `n`.
 pub(crate) fn draw(draws: &[u32], index: usize, n: u32) -> u32
     requires index { index < length draws.now }
     requires some { 0 < n }

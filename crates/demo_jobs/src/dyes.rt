@@ -1,4 +1,4 @@
-//! The dyes that are drawn, and the recipe that the standard is made by.
+//! The dyes of a job, drawn at random, and the hidden recipe that makes the standard.
 
 ghost use Rattle.std.specs.Prelude.{◌≡◌, ◌≤◌, ◌<◌, All, length};
 ghost use Rattle.demo_jobs.specs.Dyes.{IsDrawn, drawn_dye, drawn_dyes, hidden_recipe, hidden_steps};
@@ -14,17 +14,17 @@ pub(crate) const DYES: usize = 6;
 pub(crate) struct DrawnDye {
     /// Its number, from 1.
     pub(crate) number: u32,
-    /// The place of the wavelength that it takes up most.
+    /// The index of the wavelength that it absorbs most.
     pub(crate) centre: u32,
-    /// How strong it is there.
+    /// How strongly it absorbs at that wavelength.
     pub(crate) height: u32,
     /// What a unit of it costs.
     pub(crate) price: u32,
-    /// What it costs to use it at all.
+    /// What it costs to use any of it.
     pub(crate) fee: u32,
 }
 
-/// The dye of an index.
+/// The dye at an index, from its four draws.
 fn drawn_dye(draws: &[u32], index: usize) -> DrawnDye
     requires draws { length draws.now ≡ 30 }
     requires index { index < 6 }
@@ -56,7 +56,8 @@ pub(crate) fn drawn_dyes(draws: &[u32]) -> ArrayVec<DrawnDye, DYES>
     dyes
 }
 
-/// The steps of the dye of an index in the hidden recipe: of each two dyes one is drawn.
+/// The steps of the dye at an index in the hidden recipe: of each pair of dyes, one is drawn, and
+/// the other has no steps.
 fn hidden_steps(draws: &[u32], index: usize) -> u16
     requires draws { length draws.now ≡ 30 }
     requires index { index < 6 }
@@ -71,7 +72,7 @@ fn hidden_steps(draws: &[u32], index: usize) -> u16
     }
 }
 
-/// The recipe that the standard is made by.
+/// The recipe that makes the standard.
 #[tactic(auto, unfolding(crate::specs::Dyes::hidden_recipe))]
 pub(crate) fn hidden_recipe(draws: &[u32]) -> ArrayVec<u16, DYES>
     requires { length draws.now ≡ 30 }

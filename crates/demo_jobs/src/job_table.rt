@@ -13,7 +13,7 @@ use crate::tables::{put, put_text, put_whole};
 use std::alloc::{AllocError, Global};
 use toml::{Table, Value, table_to_string};
 
-/// A light: the file of its weights, and its tolerance.
+/// The table of a light: the file of its weights, and its tolerance.
 #[tactic(auto, unfolding(crate::specs::JobTable::light_table))]
 fn light_table(alloc: Global, weights: &str, tolerance: u32) -> Result<Table, AllocError>
     ensures { IfOk result (λ t. table_view t ≡ light_table weights.now tolerance) }
@@ -24,7 +24,7 @@ fn light_table(alloc: Global, weights: &str, tolerance: u32) -> Result<Table, Al
     Ok(table)
 }
 
-/// The two lights.
+/// The tables of the two lights.
 #[tactic(auto, unfolding(crate::specs::JobTable::light_tables))]
 fn light_tables(alloc: Global) -> Result<Vec<Value>, AllocError>
     ensures { IfOk result (λ v. map view v.items ≡ map table light_tables) }
@@ -35,7 +35,7 @@ fn light_tables(alloc: Global) -> Result<Vec<Value>, AllocError>
     Ok(lights)
 }
 
-/// A dyeing of the dye of a number, with its own number and its units.
+/// The table of a dyeing, given as its number and its units, of the dye with a number.
 #[tactic(auto, unfolding(crate::specs::JobTable::dyeing_table))]
 fn dyeing_table(alloc: Global, dye: u32, dyeing: (u32, u32)) -> Result<Table, AllocError>
     ensures { IfOk result (λ t. table_view t ≡ dyeing_table dye dyeing) }
@@ -52,7 +52,7 @@ fn dyeing_table(alloc: Global, dye: u32, dyeing: (u32, u32)) -> Result<Table, Al
     Ok(table)
 }
 
-/// The dyeings of the dye of a number.
+/// The tables of the dyeings of the dye with a number.
 #[tactic(auto, unfolding(crate::specs::JobTable::dyeing_tables))]
 fn dyeing_tables(alloc: Global, dye: u32) -> Result<Vec<Value>, AllocError>
     ensures { IfOk result (λ v. map view v.items ≡ map table (dyeing_tables dye)) }
@@ -64,7 +64,7 @@ fn dyeing_tables(alloc: Global, dye: u32) -> Result<Vec<Value>, AllocError>
     Ok(tables)
 }
 
-/// A dye.
+/// The table of a dye.
 #[tactic(auto, unfolding(crate::specs::JobTable::dye_table))]
 fn dye_table(alloc: Global, dye: &DrawnDye) -> Result<Table, AllocError>
     ensures { IfOk result (λ t. table_view t ≡ dye_table dye.now) }
@@ -85,7 +85,7 @@ fn dye_table(alloc: Global, dye: &DrawnDye) -> Result<Table, AllocError>
     Ok(table)
 }
 
-/// The dyes.
+/// The tables of the dyes.
 fn dye_tables(alloc: Global, dyes: &[DrawnDye]) -> Result<Vec<Value>, AllocError>
     ensures { IfOk result (λ v. map view v.items ≡ map table (map dye_table dyes.now)) }
 {
@@ -96,7 +96,7 @@ fn dye_tables(alloc: Global, dyes: &[DrawnDye]) -> Result<Vec<Value>, AllocError
     Ok(tables)
 }
 
-/// The table of a job of these dyes.
+/// The table of a job with these dyes.
 #[tactic(auto, unfolding(crate::specs::JobTable::job_table))]
 fn job_table(alloc: Global, dyes: &[DrawnDye]) -> Result<Table, AllocError>
     ensures { IfOk result (λ t. table_view t ≡ job_table dyes.now) }
@@ -116,7 +116,7 @@ fn job_table(alloc: Global, dyes: &[DrawnDye]) -> Result<Table, AllocError>
     Ok(table)
 }
 
-/// A text that writes the table of a job of these dyes.
+/// A TOML text that reads as the table of a job with these dyes.
 pub(crate) fn job_text(alloc: Global, dyes: &[DrawnDye]) -> Result<String, AllocError>
     ensures { IfOk result (λ text. tree_of (string_bytes text) ≡ Some (job_table dyes.now)) }
 {

@@ -1,4 +1,4 @@
-//! The law of generated jobs. A call does nothing; what it ensures is the law.
+//! The law of generated jobs. A call does nothing at run time; its contract is the law.
 ghost use Rattle.demo_jobs.specs.Accepted.{JobsAreAccepted};
 
 /// The four texts of [`make`](crate::make) are accepted by the readers and by the resolution of
@@ -6,6 +6,6 @@ ghost use Rattle.demo_jobs.specs.Accepted.{JobsAreAccepted};
 pub fn accepted()
     ensures { JobsAreAccepted }
 {
-    // what is printed is read back
+    // printed numbers are read back as themselves
     dec_text::laws::reads_back();
 }

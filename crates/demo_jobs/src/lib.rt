@@ -1,5 +1,5 @@
-//! Generated jobs, as a dyehouse has them: the texts of a job, of its curves and of the weights of
-//! two lights, made from a number.
+//! Generated jobs that look like those of a dyehouse: from a number, the texts of a job, of its
+//! curve file and of the weights files of its two lights.
 #![tactic(auto)]
 
 mod book;

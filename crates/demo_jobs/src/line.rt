@@ -7,7 +7,7 @@ use arrayvec::ArrayVec;
 use dec_text::put_fixed;
 use std::alloc::AllocError;
 
-/// The digits of a number that is counted in its last decimal.
+/// The digits of a number that is given in units of its last decimal place.
 pub(crate) fn number_field(decimals: u8, number: u32) -> ArrayVec<u8, 64>
     requires { decimals ≤ 12 }
     ensures { result.items ≡ number_field decimals number }
@@ -17,12 +17,12 @@ pub(crate) fn number_field(decimals: u8, number: u32) -> ArrayVec<u8, 64>
     digits
 }
 
-/// The wavelength of a place, in nanometres.
-pub(crate) fn wavelength_field(place: u32) -> ArrayVec<u8, 64>
-    requires { place < 31 }
-    ensures { result.items ≡ wavelength_field place }
+/// The field of a wavelength, in nanometres, from its index.
+pub(crate) fn wavelength_field(index: u32) -> ArrayVec<u8, 64>
+    requires { index < 31 }
+    ensures { result.items ≡ wavelength_field index }
 {
-    number_field(0, 400 + 10 * place)
+    number_field(0, 400 + 10 * index)
 }
 
 /// Appends a comma and a field.

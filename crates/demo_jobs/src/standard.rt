@@ -7,7 +7,7 @@ ghost use Rattle.spectral_tables.specs.Curve.{IsReflectance};
 ghost use Rattle.demo_jobs.specs.Dyes.{IsDrawn};
 ghost use Rattle.demo_jobs.specs.Standard.{dye_data, measured, standard, standard_at};
 
-use crate::cloths::{PLACES, dyed, substrate};
+use crate::cloths::{WAVES, dyed, substrate};
 use crate::dyes::DrawnDye;
 use arrayvec::ArrayVec;
 use fix_bounds::{Base, Iv};
@@ -16,13 +16,13 @@ use mix_model::{BaseCurve, mix};
 use spectral_tables::{Curve, Spectrum};
 use std::alloc::{AllocError, Global};
 
-/// The numbers of a dye's dyeings, each with its units of dye.
+/// The dyeings of each dye: the number of each, and its units of dye.
 pub(crate) const DYEINGS: [(u32, u32); 4] = [(1, 200), (2, 500), (3, 1000), (4, 2000)];
 
-/// The units of a step.
+/// How many units of dye a step has.
 pub(crate) const STEP: u32 = 10;
 
-/// A dyeing with so many units of a dye, and its curve.
+/// A dyeing with `units` of a dye: the units and its curve.
 fn measured(dye: &DrawnDye, units: u32) -> (u32, Curve)
     requires some { 1 ≤ units }
     requires units { units ≤ 2000 }
@@ -72,13 +72,13 @@ fn curve_of(spectrum: &Spectrum<Base>) -> Curve
     ensures { result ≡ map standard_at spectrum.now }
 {
     let mut millionths: ArrayVec<u32, 31> = ArrayVec::new();
-    for place in 0..spectrum.waves() {
-        millionths.push(standard_at(spectrum.at(place)));
+    for index in 0..spectrum.waves() {
+        millionths.push(standard_at(spectrum.at(index)));
     }
     Curve::of(millionths.as_slice())
 }
 
-/// The curve that so many steps of each dye come to.
+/// The curve of the undyed cloth dyed with `steps` of each dye.
 #[tactic(auto, unfolding(crate::specs::Standard::standard))]
 pub(crate) fn standard(alloc: Global, dyes: &[DrawnDye], steps: &[u16]) -> Result<Curve, AllocError>
     requires dyes { All IsDrawn dyes.now }

@@ -10,23 +10,23 @@ use crate::cloths::triangle;
 pub(crate) enum Light {
     /// Its weights are whole numbers.
     First,
-    /// Its weights have one decimal.
+    /// Its weights have one decimal place.
     Second,
 }
 
-/// The weights of the first light at a place, for X, Y and Z.
-fn first_weights(place: u32) -> [u32; 3]
-    ensures { result ≡ first_weights place }
+/// The weights of the first light at a wavelength index, for X, Y and Z.
+fn first_weights(index: u32) -> [u32; 3]
+    ensures { result ≡ first_weights index }
 {
     [
-        triangle(8, 20, place) + triangle(3, 4, place),
-        triangle(10, 15, place),
-        2 * triangle(6, 5, place),
+        triangle(8, 20, index) + triangle(3, 4, index),
+        triangle(10, 15, index),
+        2 * triangle(6, 5, index),
     ]
 }
 
 impl Light {
-    /// How many decimals the weights have.
+    /// How many decimal places the weights have.
     pub(crate) fn decimals(self) -> u8
         ensures is { result ≡ decimals_of self }
         ensures few { result ≤ 12 }
@@ -37,24 +37,24 @@ impl Light {
         }
     }
 
-    /// The weights at a place, counted in their last decimal: those of the second light are those
-    /// of the first times `(10 + place) / 10`.
+    /// The weights at a wavelength index, in units of their last decimal place: those of the second
+    /// light are those of the first times `(10 + index) / 10`.
     #[tactic(auto, unfolding(crate::specs::WeightsText::weights_at))]
-    pub(crate) fn weights(self, place: u32) -> [u32; 3]
-        requires { place < 31 }
-        ensures { result ≡ weights_at self place }
+    pub(crate) fn weights(self, index: u32) -> [u32; 3]
+        requires { index < 31 }
+        ensures { result ≡ weights_at self index }
     {
         match self {
-            Light::First => first_weights(place),
+            Light::First => first_weights(index),
             Light::Second => {
-                let [x, y, z] = first_weights(place);
-                let tenths = 10 + place;
+                let [x, y, z] = first_weights(index);
+                let tenths = 10 + index;
                 [x * tenths, y * tenths, z * tenths]
             }
         }
     }
 
-    /// The white values, counted in their last decimal: the sums of the weights.
+    /// The white values, in units of their last decimal place: the sums of the weights.
     pub(crate) fn white(self) -> [u32; 3]
         ensures { result ≡ white_of self }
     {

@@ -4,7 +4,7 @@ ghost use Rattle.std.specs.Prelude.{◌≡◌, ◌++◌, IfOk, OnOk};
 ghost use Rattle.demo_jobs.specs.Lines.{line};
 ghost use Rattle.demo_jobs.specs.WeightsText.{weights_record, weights_text};
 
-use crate::cloths::PLACES;
+use crate::cloths::WAVES;
 use crate::line::{number_field, push_field, wavelength_field};
 use crate::weights::Light;
 use std::alloc::{AllocError, Global};
@@ -33,9 +33,9 @@ pub(crate) fn weights_text(alloc: Global, light: Light) -> Result<Vec<u8>, Alloc
     ensures { IfOk result (λ text. text.items ≡ weights_text light) }
 {
     let mut text = Vec::from_slice(alloc, b"nm,X,Y,Z\n")?;
-    for place in 0..PLACES {
-        let weights = light.weights(place);
-        push_weights(&mut text, light, &wavelength_field(place), &weights)?;
+    for index in 0..WAVES {
+        let weights = light.weights(index);
+        push_weights(&mut text, light, &wavelength_field(index), &weights)?;
     }
     push_weights(&mut text, light, b"white", &light.white())?;
     Ok(text)

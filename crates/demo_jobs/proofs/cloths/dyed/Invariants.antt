@@ -4,9 +4,9 @@ use Rattle.spectral_tables.specs.Curve.{IsReflectance}
 use Rattle.demo_jobs.specs.Cloths.{dyed_at}
 use Rattle.demo_jobs.proofs.cloths.dyed.Given as goal
 
-abbrev pub invariant-loop-place : goal.invariant-loop-place
-invariant-loop-place l = record {
-  so_far : l.millionths.items ≡ map (dyed_at l.dye l.units) (range_with_len 0 l.place);
+abbrev pub invariant-loop-index : goal.invariant-loop-index
+invariant-loop-index l = record {
+  so_far : l.millionths.items ≡ map (dyed_at l.dye l.units) (range_with_len 0 l.index);
   range : All IsReflectance l.millionths.items;
-  count : length l.millionths.items ≡ l.place;
+  count : length l.millionths.items ≡ l.index;
 }

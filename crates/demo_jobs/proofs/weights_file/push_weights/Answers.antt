@@ -1,8 +1,8 @@
 use Rattle.std.proofs.Common.{◌≡◌, ◌++◌, ◌∷◌, ◌∙◌, ap, arith, get_or, map}
-use Rattle.demo_jobs.specs.Lines.{behind_commas, number_field}
+use Rattle.demo_jobs.specs.Lines.{after_commas, number_field}
 use Rattle.demo_jobs.specs.WeightsText.{decimals_of}
 use Rattle.demo_jobs.proofs.LineFacts.{fields_end, fields_more, whole_line}
-use Rattle.demo_jobs.proofs.Places.{any_other}
+use Rattle.demo_jobs.proofs.ListFacts.{any_other}
 use Rattle.demo_jobs.proofs.weights_file.push_weights.Goals as goal
 
 pub loop-weight-preserved : goal.loop-weight-preserved
@@ -17,4 +17,4 @@ pub returns : goal.returns
 returns c =
     let fields = fields_end (number_field (decimals_of c.args.light)) c.args.weights.now c.loop-weight.weight-index c.loop-weight.text.items (omega arith) c.loop-weight.invariant in
     whole_line c.args.text.now.items c.args.first.now c.loop-weight.text.items c.push.new.self.items (map (number_field (decimals_of c.args.light)) c.args.weights.now)
-    (fields ∙ ap (λ t. t ++ behind_commas (map (number_field (decimals_of c.args.light)) c.args.weights.now)) c.in_ok-extend_from_slice.ensures.items) c.in_ok-push.ensures.items
+    (fields ∙ ap (λ t. t ++ after_commas (map (number_field (decimals_of c.args.light)) c.args.weights.now)) c.in_ok-extend_from_slice.ensures.items) c.in_ok-push.ensures.items

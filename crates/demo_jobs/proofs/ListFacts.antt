@@ -6,8 +6,8 @@ use Rattle.std.proofs.lemmas.List.{map-append, take_more}
 use Rattle.std.proofs.lemmas.List.FromFn.{map-range_with_len_more}
 
 -- one more value of a function of the index
-pub place_more : {X : Type 0} (f : ℕ → X) (k : ℕ) (x : X) (items new : List X) → items ≡ map f (range_with_len 0 k) → x ≡ f k → new ≡ items ++ x ∷ [] → new ≡ map f (range_with_len 0 (k + 1))
-place_more {X = X} f k x items new so_far is pushed =
+pub index_more : {X : Type 0} (f : ℕ → X) (k : ℕ) (x : X) (items new : List X) → items ≡ map f (range_with_len 0 k) → x ≡ f k → new ≡ items ++ x ∷ [] → new ≡ map f (range_with_len 0 (k + 1))
+index_more {X = X} f k x items new so_far is pushed =
     pushed ∙ (λ i. so_far i ++ is i ∷ []) ∙ sym (map-range_with_len_more f 0 k k (omega arith))
 
 -- one more value of a function of the items of a list
@@ -23,7 +23,7 @@ found_at [] k x is = absurd cc
 found_at (y ∷ xs) zero x is = let e : Some y ≡ Some x = is in let same : x ≡ y = cc in same
 found_at (y ∷ xs) (suc k) x is = found_at xs k x is
 
--- an item within the list, whatever would stand for one outside it
+-- the item at an index within the list, whatever default is given for an index outside it
 pub any_other : (xs : List ℕ) (k d e : ℕ) → k < length xs → get_or xs k d ≡ get_or xs k e
 any_other [] k d e lt = absurd (omega arith)
 any_other (x ∷ xs) zero d e lt = refl
