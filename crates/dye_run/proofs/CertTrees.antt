@@ -13,7 +13,7 @@ ok_of : {A B : Type 0} (step : Result A CertFault) (next : A → Result B CertFa
 ok_of (Ok x) next y e = (x, refl, e)
 ok_of (Err f) next y e = absurd (let h : Err f ≡ Ok y = e in cc)
 
--- a line wants as many trees behind it as it has parts
+-- a line is followed by as many trees as it has parts
 one_line : (k : ℕ) (line : CertLine) (more : List CertLine) → are_trees (suc k) (line ∷ more) ≡ are_trees (parts_of line + k) more
 one_line k (Split dye mid) more = let e : suc (suc k) ≡ 2 + k = omega arith in ap (λ n. are_trees n more) e
 one_line k (Limit x) more = let e : k ≡ 0 + k = omega arith in ap (λ n. are_trees n more) e
@@ -22,7 +22,7 @@ one_line k Dear more = let e : k ≡ 0 + k = omega arith in ap (λ n. are_trees 
 one_line k Undecided more = let e : k ≡ 0 + k = omega arith in ap (λ n. are_trees n more) e
 one_line k Pass more = let e : k ≡ 0 + k = omega arith in ap (λ n. are_trees n more) e
 
--- the lines that reading gave
+-- the lines that were read
 abbrev lines_read : Result (List CertLine × Cursor) CertFault → List CertLine
 lines_read (Ok r) = r.0
 lines_read (Err f) = []

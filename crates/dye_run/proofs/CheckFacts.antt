@@ -1,4 +1,4 @@
--- What a check answers, by where a certificate first fails.
+-- The result of a check, by the first failure of a certificate.
 use Rattle.std.proofs.Common.{◌≡◌, ℕ, Option, Some, None}
 use Rattle.box_specs.specs.declared.certificate.Checked.TheVariants.{Refused}
 use Rattle.box_specs.specs.declared.certificate.Why.{Why}

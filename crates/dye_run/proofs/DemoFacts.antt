@@ -1,4 +1,4 @@
--- The generated job of a number, as it is read.
+-- The generated job with a number, as it is read.
 use Rattle.std.proofs.Common.{◌≡◌, ◌⊎◌, ◌≤◌, ℕ, List, [], ◌∷◌, length, map, Option, Some, None, All, IfSome, IfOk, IfErr, Result, Ok, Err, refl, sym, ap, ◌∙◌, inl, inr, subst}
 use Rattle.std.specs.Global.{Vec}
 use Rattle.std.specs.Option.{ForSome}
@@ -27,8 +27,8 @@ use Rattle.dye_run.specs.Outcome.{Fault, Outcome, refused}
 use Rattle.dye_run.specs.Answers.{Report}
 use Rattle.dye_run.specs.Demo.{matched_cost, summary_text}
 use Rattle.dye_run.specs.Search.{conclusion_of, result_for}
-use Rattle.dye_run.specs.Views.{came_view}
-use Rattle.dye_run.specs.declared.jobs.CameFiles.{CameFiles}
+use Rattle.dye_run.specs.Views.{bytes_view}
+use Rattle.dye_run.specs.declared.jobs.FilesRead.{FilesRead}
 use Rattle.dye_run.specs.declared.stop.Stop.{Stop}
 use Rattle.dye_run.proofs.Headline.{is_valid}
 
@@ -60,18 +60,18 @@ module _ (drawn text curves first second : List ℕ) (a : IsAccepted drawn text 
   pub job_is : (slice : List ℕ) → slice ≡ text → (name : List ℕ) (j : Values) → job_from Without name (Some slice) ≡ Ok j → j ≡ job_values (drawn_dyes drawn)
   job_is slice is name j e = ok_same (job_from Without name (Some slice)) j (job_values (drawn_dyes drawn)) e (job_from_slice slice is name)
 
-  pub tables_are : (j : Values) (came : Option (List ℕ)) (others : List (Option (List ℕ))) → j ≡ job_values (drawn_dyes drawn) → came ≡ Some curves → others ≡ Some first ∷ Some second ∷ []
-      → job_tables_from j came others ≡ Ok (record { book = job_book drawn; weights = both_weights })
-  tables_are j came others is c w = (λ i. job_tables_from (is i) (c i) (w i)) ∙ tables_accepted drawn text curves first second a
+  pub tables_are : (j : Values) (bytes_read : Option (List ℕ)) (others : List (Option (List ℕ))) → j ≡ job_values (drawn_dyes drawn) → bytes_read ≡ Some curves → others ≡ Some first ∷ Some second ∷ []
+      → job_tables_from j bytes_read others ≡ Ok (record { book = job_book drawn; weights = both_weights })
+  tables_are j bytes_read others is c w = (λ i. job_tables_from (is i) (c i) (w i)) ∙ tables_accepted drawn text curves first second a
 
-  pub tables_view_is : (j : Values) (came : Option (List ℕ)) (others : List (Option (List ℕ))) (t : JobTables) → j ≡ job_values (drawn_dyes drawn) → came ≡ Some curves → others ≡ Some first ∷ Some second ∷ []
-      → job_tables_from j came others ≡ Ok t → t ≡ record { book = job_book drawn; weights = both_weights }
-  tables_view_is j came others t is c w e = ok_same (job_tables_from j came others) t (record { book = job_book drawn; weights = both_weights }) e (tables_are j came others is c w)
+  pub tables_view_is : (j : Values) (bytes_read : Option (List ℕ)) (others : List (Option (List ℕ))) (t : JobTables) → j ≡ job_values (drawn_dyes drawn) → bytes_read ≡ Some curves → others ≡ Some first ∷ Some second ∷ []
+      → job_tables_from j bytes_read others ≡ Ok t → t ≡ record { book = job_book drawn; weights = both_weights }
+  tables_view_is j bytes_read others t is c w e = ok_same (job_tables_from j bytes_read others) t (record { book = job_book drawn; weights = both_weights }) e (tables_are j bytes_read others is c w)
 
   pub resolves : (name : List ℕ) (j : Values) (t : JobTables) → j ≡ job_values (drawn_dyes drawn) → t ≡ record { book = job_book drawn; weights = both_weights } → resolved_from name j t ≡ Ok (resolved_of drawn)
   resolves name j t is e = (λ i. resolved_from name (is i) (e i)) ∙ job_resolves drawn text curves first second a name
 
--- a step that gives a value does not refuse
+-- a step that has a value does not refuse
 pub not_refused : {A : Type 0} (why : Option Outcome) (step : Result A Fault) (x : A) → step ≡ Ok x → IfSome why (λ o. (fault : Fault) × (o ≡ refused fault) × (step ≡ Err fault)) → why ≡ None
 not_refused (Some o) step x e h = let f = h.2 in cc
 not_refused None step x e h = refl
@@ -80,7 +80,7 @@ pub not_owned : (why owned : Option Outcome) → (owned ≡ why) ⊎ (owned ≡ 
 not_owned why owned (inl same) none = same ∙ none
 not_owned why owned (inr none) h = none
 
--- what a step gives is its value
+-- the value of a step is that of its definition
 pub gives_value : {A X : Type 0} (view : X → A) (result : Result X Stop) (step : Result A Fault) (x : A) → step ≡ Ok x → Gives view result step → IfOk result (λ r. view r ≡ x)
 gives_value view (Ok r) step x e gives = ok_same step (view r) x gives e
 gives_value view (Err why) step x e gives = tt
@@ -91,34 +91,34 @@ gives_no_refusal view (Err why) step x e gives = not_refused (stop_outcome why) 
 
 -- ---- the files of a generated job fit it
 
-short_curves : (came : Option (Vec ℕ)) (text : List ℕ) → came_view came ≡ Some text → length text ≤ 1000000 → ForSome came (λ bytes. length bytes.items ≤ 1000000)
-short_curves came text e h = λ x is.
-    let both : came_view (Some x) ≡ Some text = ap came_view (sym is) ∙ e in
+short_curves : (bytes_read : Option (Vec ℕ)) (text : List ℕ) → bytes_view bytes_read ≡ Some text → length text ≤ 1000000 → ForSome bytes_read (λ bytes. length bytes.items ≤ 1000000)
+short_curves bytes_read text e h = λ x is.
+    let both : bytes_view (Some x) ≡ Some text = ap bytes_view (sym is) ∙ e in
     let same : x.items ≡ text = cc in
     subst (λ t. length t ≤ 1000000) (sym same) h
 
-short_came : (came : Option (Vec ℕ)) (text : List ℕ) → came_view came ≡ Some text → length text ≤ 1000000 → IfSome came (λ bytes. length bytes.items ≤ 1000000)
-short_came (Some b) text e h = let same : b.items ≡ text = cc in subst (λ t. length t ≤ 1000000) (sym same) h
-short_came None text e h = tt
+short_bytes_read : (bytes_read : Option (Vec ℕ)) (text : List ℕ) → bytes_view bytes_read ≡ Some text → length text ≤ 1000000 → IfSome bytes_read (λ bytes. length bytes.items ≤ 1000000)
+short_bytes_read (Some b) text e h = let same : b.items ≡ text = cc in subst (λ t. length t ≤ 1000000) (sym same) h
+short_bytes_read None text e h = tt
 
 abbrev IsShort : Option (Vec ℕ) → Type 0
 IsShort c = IfSome c (λ bytes. length bytes.items ≤ 1000000)
 
-two_came : (came : List (Option (Vec ℕ))) (first second : List ℕ) → map came_view came ≡ Some first ∷ Some second ∷ [] → length first ≤ 1000000 → length second ≤ 1000000 → (length came ≡ 2) × All IsShort came
-two_came [] first second e h k = absurd (let f : [] ≡ Some first ∷ Some second ∷ [] = e in cc)
-two_came (a ∷ []) first second e h k = absurd (let f : came_view a ∷ [] ≡ Some first ∷ Some second ∷ [] = e in cc)
-two_came (a ∷ (b ∷ [])) first second e h k =
-    let one : came_view a ≡ Some first = cc in
-    let two : came_view b ≡ Some second = cc in
-    (refl, All-cons IsShort a (b ∷ []) (short_came a first one h) (All-cons IsShort b [] (short_came b second two k) (All-nil IsShort)))
-two_came (a ∷ (b ∷ (c ∷ rest))) first second e h k = absurd (let f : came_view a ∷ (came_view b ∷ (came_view c ∷ map came_view rest)) ≡ Some first ∷ Some second ∷ [] = e in cc)
+two_files_read : (bytes_read : List (Option (Vec ℕ))) (first second : List ℕ) → map bytes_view bytes_read ≡ Some first ∷ Some second ∷ [] → length first ≤ 1000000 → length second ≤ 1000000 → (length bytes_read ≡ 2) × All IsShort bytes_read
+two_files_read [] first second e h k = absurd (let f : [] ≡ Some first ∷ Some second ∷ [] = e in cc)
+two_files_read (a ∷ []) first second e h k = absurd (let f : bytes_view a ∷ [] ≡ Some first ∷ Some second ∷ [] = e in cc)
+two_files_read (a ∷ (b ∷ [])) first second e h k =
+    let one : bytes_view a ≡ Some first = cc in
+    let two : bytes_view b ≡ Some second = cc in
+    (refl, All-cons IsShort a (b ∷ []) (short_bytes_read a first one h) (All-cons IsShort b [] (short_bytes_read b second two k) (All-nil IsShort)))
+two_files_read (a ∷ (b ∷ (c ∷ rest))) first second e h k = absurd (let f : bytes_view a ∷ (bytes_view b ∷ (bytes_view c ∷ map bytes_view rest)) ≡ Some first ∷ Some second ∷ [] = e in cc)
 
-pub generated_fit : (drawn text curves first second : List ℕ) → IsAccepted drawn text curves first second → (job : Job) (came : CameFiles) → job_view job ≡ job_values (drawn_dyes drawn) → came_view came.curves ≡ Some curves
-    → map came_view came.weights.items ≡ Some first ∷ Some second ∷ [] → FitsFiles (length job.light.items) came
-generated_fit drawn text curves first second a job came is c w =
-    let two = two_came came.weights.items first second w a.first_short a.second_short in
+pub generated_fit : (drawn text curves first second : List ℕ) → IsAccepted drawn text curves first second → (job : Job) (bytes_read : FilesRead) → job_view job ≡ job_values (drawn_dyes drawn) → bytes_view bytes_read.curves ≡ Some curves
+    → map bytes_view bytes_read.weights.items ≡ Some first ∷ Some second ∷ [] → FitsFiles (length job.light.items) bytes_read
+generated_fit drawn text curves first second a job bytes_read is c w =
+    let two = two_files_read bytes_read.weights.items first second w a.first_short a.second_short in
     let lights : length job.light.items ≡ 2 = ap (λ j. length j.light) is in
-    record { curves = short_curves came.curves curves c a.curves_short; count = two.0 ∙ sym lights; short = two.1 }
+    record { curves = short_curves bytes_read.curves curves c a.curves_short; count = two.0 ∙ sym lights; short = two.1 }
 
 -- ---- the certificate of a search is not refused
 
@@ -133,7 +133,7 @@ same_content r c valid h same e = ok_same (valid_from r c) valid (content_of (re
 abbrev pub demo_report_is : ℕ → ResolvedJob → Report
 demo_report_is number r = record { conclusion = conclusion_of (result_for r).claim; text = summary_text number r (result_for r); evaluations = []; written = None; recipes = Some r }
 
--- a cost goes with a match
+-- there is a cost exactly where there is a match
 pub cost_goes : (r : ResolvedJob) (claim : Claim) → GoesWith claim (matched_cost r claim)
 cost_goes r (Match recipe) = refl
 cost_goes r NoMatch = refl

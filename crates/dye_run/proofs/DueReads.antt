@@ -6,34 +6,34 @@ use Rattle.shelf_io.specs.View.{ShelfView}
 use Rattle.shelf_io.proofs.Keeping.{reads_none, reads_then, reads_wider}
 use Rattle.dye_run.specs.Asking.{Asking, IsDue, MayTake, ReadsDue, answers, asks, due_bytes}
 use Rattle.dye_run.specs.Outcome.{Outcome}
-use Rattle.dye_run.specs.Due.{Comes}
+use Rattle.dye_run.specs.Due.{CanBeRead}
 
 less : (a b c : ℕ) → b ≤ a + c → b - a ≤ c
 less a b c h = omega (arith, h)
 
--- the first due file alone was read
+-- only the first due file was read
 pub first_read : (name : List ℕ) (limit : ℕ) (next : Option (List ℕ) → Asking) (before after : ShelfView) → OnlyReads (λ n. n ≡ name) before after → HandsOut name (limit + 1) before after → ReadsDue (asks name limit next) before after
 first_read name limit next before after only handed = record {
   only = reads_wider (λ n. n ≡ name) (IsDue before.contents (asks name limit next)) before after (λ n e. inl e) only;
   taken = λ n. inl (less (before.handed n) (after.handed n) (due_bytes name limit n) (handed n));
 }
 
--- it came, and then those that are due behind it were read
-pub then_read : (name : List ℕ) (limit : ℕ) (next : Option (List ℕ) → Asking) (came : Option (List ℕ)) (before mid after : ShelfView) → OnlyReads (λ n. n ≡ name) before mid → HandsOut name (limit + 1) before mid → Comes before.contents name limit came → ReadsDue (next came) mid after → ReadsDue (asks name limit next) before after
-then_read name limit next came before mid after only handed comes rest =
-    let Due : (contents : Option Contents) → List ℕ → Type 0 = λ contents n. IsDue contents (next came) n in
-    let due : (n : List ℕ) → IsDue mid.contents (next came) n → IsDue before.contents (asks name limit next) n =
-    λ n d. inr (came, comes, subst (λ c. Due c n) only.contents d) in
+-- it was read, and then those that are due after it were read
+pub then_read : (name : List ℕ) (limit : ℕ) (next : Option (List ℕ) → Asking) (bytes_read : Option (List ℕ)) (before mid after : ShelfView) → OnlyReads (λ n. n ≡ name) before mid → HandsOut name (limit + 1) before mid → CanBeRead before.contents name limit bytes_read → ReadsDue (next bytes_read) mid after → ReadsDue (asks name limit next) before after
+then_read name limit next bytes_read before mid after only handed from_files rest =
+    let Due : (contents : Option Contents) → List ℕ → Type 0 = λ contents n. IsDue contents (next bytes_read) n in
+    let due : (n : List ℕ) → IsDue mid.contents (next bytes_read) n → IsDue before.contents (asks name limit next) n =
+    λ n d. inr (bytes_read, from_files, subst (λ c. Due c n) only.contents d) in
     record {
       only = reads_then (IsDue before.contents (asks name limit next)) before mid after
           (reads_wider (λ n. n ≡ name) (IsDue before.contents (asks name limit next)) before mid (λ n e. inl e) only)
-          (reads_wider (IsDue mid.contents (next came)) (IsDue before.contents (asks name limit next)) mid after due rest.only);
+          (reads_wider (IsDue mid.contents (next bytes_read)) (IsDue before.contents (asks name limit next)) mid after due rest.only);
       taken = λ n.
           let first = handed n in
           let both : after.handed n - before.handed n ≤ due_bytes name limit n + (after.handed n - mid.handed n) = omega (arith, first) in
-          inr (came, comes, (after.handed n - mid.handed n, subst (λ c. MayTake c (next came) n (after.handed n - mid.handed n)) only.contents (rest.taken n), both));
+          inr (bytes_read, from_files, (after.handed n - mid.handed n, subst (λ c. MayTake c (next bytes_read) n (after.handed n - mid.handed n)) only.contents (rest.taken n), both));
     }
 
--- a command whose files have all come reads no more
+-- a command whose files have all been read reads no other
 pub none_read : (o : Outcome) (view : ShelfView) → ReadsDue (answers o) view view
 none_read o view = record { only = reads_none (IsDue view.contents (answers o)) view; taken = λ n. omega arith }

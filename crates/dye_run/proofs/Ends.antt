@@ -57,7 +57,7 @@ refusal_writes (why.CertGrammar fault) = refl
 refusal_writes (why.CertWrong line reason) = refl
 refusal_writes (why.NotWritten name) = refl
 
--- and speaks of no recipes
+-- and reports on no recipes
 pub refusal_searched : (r : Refusal) → IsSearched (refusal_outcome r)
 refusal_searched why.Usage = tt
 refusal_searched (why.Unreadable name) = tt
@@ -92,7 +92,7 @@ ended_by form before after o result reached none same (delivery.cut taken counte
 
 -- ---- a report, with its file
 
--- a report is over what came of the reads
+-- a report is over the bytes that were read
 reported_answers : (asking : Asking) (before after : ShelfView) (r : Report) → Reaches asking before after (reported r) → Answers before.contents asking (reported r)
 reported_answers asking before after r (inl w) = w
 reported_answers asking before after r (inr u) = let e = u.2 in cc
@@ -170,7 +170,7 @@ changes_by form before after reads p = record {
   puts = put_grows before.sink after.sink p;
 }
 
--- one that printed nothing
+-- a call that printed nothing
 pub changes_nothing : (form : Option Form) (before after : ShelfView) (sink : SinkView) → ReadsDue (asking_for form) before after → Changes form (world before sink) (world after sink)
 changes_nothing form before after sink reads = record {
   only = only_read (IsDue before.contents (asking_for form)) (written_by form) before after reads.only;

@@ -1,4 +1,4 @@
--- What a search and a check say of the recipes of a job.
+-- What a search and a check claim about the recipes of a job.
 use Rattle.std.proofs.Common.{◌≡◌, ◌≤◌, ℕ, List, [], ◌∷◌, length, Option, Some, None, All, IfSome, IsSomeAnd, Bool, true, false, if◌then◌else◌, nat_le, option_map, Result, Ok, Err, refl, sym, ap, ◌∙◌, subst, inl, inr, arith}
 use Rattle.std.specs.Io.KnownBytes.{append_known}
 use Rattle.std.specs.List.{AllZip}
@@ -27,10 +27,10 @@ use Rattle.dye_run.specs.Asking.{Answers, answers}
 use Rattle.dye_run.specs.Check.{accepted_report, cert_from, check_report, check_rule, unless_failing, unless_misspelled, valid_from}
 use Rattle.dye_run.specs.Commands.{asking_of}
 use Rattle.dye_run.specs.Demo.{demo_job, demo_report, summary_text}
-use Rattle.dye_run.specs.Due.{Comes, within}
+use Rattle.dye_run.specs.Due.{CanBeRead, up_to_limit}
 use Rattle.dye_run.specs.Endings.{IsSearchable, Leaves, World, with_written}
 use Rattle.dye_run.specs.Forms.{check, correct, demo, form_of, predict}
-use Rattle.dye_run.specs.Headline.{Confirms, Finds, IsFoundStatus, JobComes, SaysOfRecipes, Summarises}
+use Rattle.dye_run.specs.Headline.{Confirms, Finds, IsFoundStatus, IsJobOfFiles, SaysOfRecipes, Summarises}
 use Rattle.dye_run.specs.Inputs.{table_limit}
 use Rattle.dye_run.specs.Jobs.{asks_cert, asks_job, cert_limit, job_from, job_limit, light_files, unless_broken}
 use Rattle.dye_run.specs.Outcome.{Fault, conclusion_status, grammar, invalid, outcome_of, reported, too_long}
@@ -39,7 +39,7 @@ use Rattle.dye_run.specs.Search.{conclusion_of, result_for, result_report, searc
 use Rattle.dye_run.specs.Statuses as table
 use Rattle.dye_run.specs.Words.{CertWords}
 use Rattle.dye_run.proofs.CertTrees.{one_tree}
-use Rattle.dye_run.proofs.FilesKnown.{cert_answers, job_came, job_cert_came, ok_next, result_from}
+use Rattle.dye_run.proofs.FilesKnown.{cert_answers, job_bytes, job_cert_read, ok_next, result_from}
 use Rattle.dye_run.proofs.FormWords.{AreCertWords, correct_words, ends_as_cert, predict_words}
 use Rattle.job_laws.proofs.Accepted.{files_are_no_certs}
 use Rattle.job_laws.proofs.Either.{accepts_either}
@@ -58,15 +58,15 @@ other_name a b none ends = unless_true (bytes_eq a b) (λ h. let same : ends_as_
 own_name : (a : List ℕ) → bytes_eq a a ≡ true
 own_name a = (bytes_eq-Decides a a).1 refl
 
-within_limit : (limit : ℕ) (text : List ℕ) → length text ≤ limit → Some text ≡ within limit text
-within_limit limit text h = let fits : nat_le (length text) limit ≡ true = grind (arith, nat_tests, h) in subst (λ b. Some text ≡ (if b then Some text else None)) (sym fits) refl
+short_is_whole : (limit : ℕ) (text : List ℕ) → length text ≤ limit → Some text ≡ up_to_limit limit text
+short_is_whole limit text h = let fits : nat_le (length text) limit ≡ true = grind (arith, nat_tests, h) in subst (λ b. Some text ≡ (if b then Some text else None)) (sym fits) refl
 
 unbroken : (name : List ℕ) (job : Result Values JobFault) (j : Values) → unless_broken name job ≡ Ok j → job ≡ Ok j
 unbroken name (Ok v) j e = (let h : Ok v ≡ Ok j = e in ap (λ x. Ok x) (let same : v ≡ j = cc in same))
 unbroken name (Err fault) j e = absurd (let h : Err (outcome.job name fault) ≡ Ok j = e in cc)
 
--- the job is accepted by the rule of a check too, and no file of it is named as certificates are
-files_kept : (rule : BatchRule) (name : List ℕ) (came : Option (List ℕ)) (j : Values) → job_from rule name came ≡ Ok j → (job_from Either name came ≡ Ok j) × IsNoCert j.head.curves × All IsNoCert (light_files j)
+-- the job is also accepted by the rule of a check, and none of its files has the name of a certificate
+files_kept : (rule : BatchRule) (name : List ℕ) (bytes_read : Option (List ℕ)) (j : Values) → job_from rule name bytes_read ≡ Ok j → (job_from Either name bytes_read ≡ Ok j) × IsNoCert j.head.curves × All IsNoCert (light_files j)
 unfolding job_from
 files_kept rule name None j e = absurd (let h : Err (too_long name) ≡ Ok j = e in cc)
 files_kept rule name (Some bytes) j e =
@@ -75,53 +75,53 @@ files_kept rule name (Some bytes) j e =
     (ap (unless_broken name) (accepts_either rule bytes j is), no.0, All-map IsNoCert (λ l. l.weights) j.light no.1)
 
 module _ (cert text : List ℕ) (before after : Option Contents) (written : after ≡ option_map (write_bytes cert text) before) where
-  -- what came of a file of another name still comes
-  still_known : (name : List ℕ) (limit : ℕ) (came : Option (List ℕ)) → bytes_eq name cert ≡ false → (old : Option Contents) → IfSome old (λ c. IsSomeAnd (c.file name) (λ bytes. came ≡ within limit bytes))
-      → IfSome (option_map (write_bytes cert text) old) (λ c. IsSomeAnd (c.file name) (λ bytes. came ≡ within limit bytes))
-  still_known name limit came other None h = tt
-  still_known name limit came other (Some c) h =
-      subst (λ b. IsSomeAnd (if b then Some text else c.file name) (λ bytes. came ≡ within limit bytes)) (sym other) h
+  -- a result of reading a file with another name is still possible
+  still_known : (name : List ℕ) (limit : ℕ) (bytes_read : Option (List ℕ)) → bytes_eq name cert ≡ false → (old : Option Contents) → IfSome old (λ c. IsSomeAnd (c.file name) (λ bytes. bytes_read ≡ up_to_limit limit bytes))
+      → IfSome (option_map (write_bytes cert text) old) (λ c. IsSomeAnd (c.file name) (λ bytes. bytes_read ≡ up_to_limit limit bytes))
+  still_known name limit bytes_read other None h = tt
+  still_known name limit bytes_read other (Some c) h =
+      subst (λ b. IsSomeAnd (if b then Some text else c.file name) (λ bytes. bytes_read ≡ up_to_limit limit bytes)) (sym other) h
 
-  still_comes : (name : List ℕ) (limit : ℕ) (came : Option (List ℕ)) → bytes_eq name cert ≡ false → Comes before name limit came → Comes after name limit came
-  still_comes name limit came other w = record {
+  still_read : (name : List ℕ) (limit : ℕ) (bytes_read : Option (List ℕ)) → bytes_eq name cert ≡ false → CanBeRead before name limit bytes_read → CanBeRead after name limit bytes_read
+  still_read name limit bytes_read other w = record {
     short = w.short;
-    known = subst (λ c. IfSome c (λ c. IsSomeAnd (c.file name) (λ bytes. came ≡ within limit bytes))) (sym written) (still_known name limit came other before w.known);
+    known = subst (λ c. IfSome c (λ c. IsSomeAnd (c.file name) (λ bytes. bytes_read ≡ up_to_limit limit bytes))) (sym written) (still_known name limit bytes_read other before w.known);
   }
 
-  -- the certificate comes
-  cert_known : (limit : ℕ) → Some text ≡ within limit text → (old : Option Contents) → IfSome (option_map (write_bytes cert text) old) (λ c. IsSomeAnd (c.file cert) (λ bytes. Some text ≡ within limit bytes))
+  -- the certificate can be read
+  cert_known : (limit : ℕ) → Some text ≡ up_to_limit limit text → (old : Option Contents) → IfSome (option_map (write_bytes cert text) old) (λ c. IsSomeAnd (c.file cert) (λ bytes. Some text ≡ up_to_limit limit bytes))
   cert_known limit short None = tt
-  cert_known limit short (Some c) = subst (λ b. IsSomeAnd (if b then Some text else c.file cert) (λ bytes. Some text ≡ within limit bytes)) (sym (own_name cert)) short
+  cert_known limit short (Some c) = subst (λ b. IsSomeAnd (if b then Some text else c.file cert) (λ bytes. Some text ≡ up_to_limit limit bytes)) (sym (own_name cert)) short
 
-  cert_comes : length text ≤ cert_limit → Comes after cert cert_limit (Some text)
-  cert_comes short = record {
+  cert_can_be_read : length text ≤ cert_limit → CanBeRead after cert cert_limit (Some text)
+  cert_can_be_read short = record {
     short = short;
-    known = subst (λ c. IfSome c (λ c. IsSomeAnd (c.file cert) (λ bytes. Some text ≡ within cert_limit bytes))) (sym written) (cert_known cert_limit (within_limit cert_limit text short) before);
+    known = subst (λ c. IfSome c (λ c. IsSomeAnd (c.file cert) (λ bytes. Some text ≡ up_to_limit cert_limit bytes))) (sym written) (cert_known cert_limit (short_is_whole cert_limit text short) before);
   }
 
-  still_come : (names : List (List ℕ)) (came : List (Option (List ℕ))) → ends_as_cert cert ≡ true → All IsNoCert names → AllZip (λ file c. Comes before file table_limit c) names came → AllZip (λ file c. Comes after file table_limit c) names came
-  still_come [] [] is none all = all
-  still_come [] (c ∷ came) is none all = absurd all
-  still_come (name ∷ names) [] is none all = absurd all
-  still_come (name ∷ names) (c ∷ came) is none all =
-      (still_comes name table_limit c (other_name name cert (All-head IsNoCert name names none) is) all.0, still_come names came is (All-tail IsNoCert name names none) all.1)
+  all_still_read : (names : List (List ℕ)) (bytes_read : List (Option (List ℕ))) → ends_as_cert cert ≡ true → All IsNoCert names → AllZip (λ file c. CanBeRead before file table_limit c) names bytes_read → AllZip (λ file c. CanBeRead after file table_limit c) names bytes_read
+  all_still_read [] [] is none all = all
+  all_still_read [] (c ∷ bytes_read) is none all = absurd all
+  all_still_read (name ∷ names) [] is none all = absurd all
+  all_still_read (name ∷ names) (c ∷ bytes_read) is none all =
+      (still_read name table_limit c (other_name name cert (All-head IsNoCert name names none) is) all.0, all_still_read names bytes_read is (All-tail IsNoCert name names none) all.1)
 
-  -- a job comes by the rule of a check
-  job_still_comes : (rule : BatchRule) (name : List ℕ) (r : ResolvedJob) → IsNoCert name → ends_as_cert cert ≡ true → JobComes before rule name r → JobComes after Either name r
-  job_still_comes rule name r none is came =
-      let files = files_kept rule name came.job_came came.values came.accepted in
+  -- a job of the files is still one by the rule of a check
+  job_still_read : (rule : BatchRule) (name : List ℕ) (r : ResolvedJob) → IsNoCert name → ends_as_cert cert ≡ true → IsJobOfFiles before rule name r → IsJobOfFiles after Either name r
+  job_still_read rule name r none is bytes_read =
+      let files = files_kept rule name bytes_read.job_bytes bytes_read.values bytes_read.accepted in
       record {
-        job_came = came.job_came;
-        values = came.values;
-        curves_came = came.curves_came;
-        weights_came = came.weights_came;
-        tables = came.tables;
-        job = still_comes name job_limit came.job_came (other_name name cert none is) came.job;
-        curves = still_comes came.values.head.curves table_limit came.curves_came (other_name came.values.head.curves cert files.1 is) came.curves;
-        weights = still_come (light_files came.values) came.weights_came is files.2 came.weights;
+        job_bytes = bytes_read.job_bytes;
+        values = bytes_read.values;
+        curves_bytes = bytes_read.curves_bytes;
+        weights_bytes = bytes_read.weights_bytes;
+        tables = bytes_read.tables;
+        job = still_read name job_limit bytes_read.job_bytes (other_name name cert none is) bytes_read.job;
+        curves = still_read bytes_read.values.head.curves table_limit bytes_read.curves_bytes (other_name bytes_read.values.head.curves cert files.1 is) bytes_read.curves;
+        weights = all_still_read (light_files bytes_read.values) bytes_read.weights_bytes is files.2 bytes_read.weights;
         accepted = files.0;
-        read = came.read;
-        resolved = came.resolved;
+        read = bytes_read.read;
+        resolved = bytes_read.resolved;
       }
 
 -- ---- the check of a certificate that a search wrote
@@ -145,10 +145,10 @@ module _ (rule : BatchRule) (words : CertWords) (kept : AreCertWords words) (bef
       → Finds rule words before after status
   unfolding search_report
   finds w ends leaves searched =
-      let came = job_came before.shelf.contents rule words.job (search_report words.cert) report w in
-      let r = came.0 in
+      let bytes_read = job_bytes before.shelf.contents rule words.job (search_report words.cert) report w in
+      let r = bytes_read.0 in
       let s = result_for r in
-      let is : result_report words.cert r s ≡ report = (let h : Ok (result_report words.cert r s) ≡ Ok report = came.2 in cc) in
+      let is : result_report words.cert r s ≡ report = (let h : Ok (result_report words.cert r s) ≡ Ok report = bytes_read.2 in cc) in
       let h : IsSearchable r = subst (λ x. IfSome x.recipes IsSearchable) (sym is) searched in
       let text = cert_text (content_of s) in
       let written : after.shelf.contents ≡ option_map (write_bytes words.cert text) before.shelf.contents = leaves.contents ∙ ap (λ x. with_written x.written before.shelf.contents) (sym is) in
@@ -159,7 +159,7 @@ module _ (rule : BatchRule) (words : CertWords) (kept : AreCertWords words) (bef
         listed = s.listed;
         lines = s.lines;
         boxes = s.boxes;
-        comes = came.1;
+        from_files = bytes_read.1;
         ends = ap (λ x. conclusion_status x.conclusion) is ∙ ends;
         holds = result_is_first (recipe_land r) h.lawful r.job.head.budget;
         means = result_means (recipe_land r) h.lawful r.job.head.budget;
@@ -167,8 +167,8 @@ module _ (rule : BatchRule) (words : CertWords) (kept : AreCertWords words) (bef
         written = written;
         checked = λ c e. result_from after.shelf.contents c (asking_of (check words)) (reported (accepted_report r s.claim)) e
             (cert_answers after.shelf.contents Either words.job words.cert text check_report (accepted_report r s.claim) r
-            (job_still_comes words.cert text before.shelf.contents after.shelf.contents written rule words.job r kept.job kept.cert came.1)
-            (cert_comes words.cert text before.shelf.contents after.shelf.contents written short) (check_accepts r h));
+            (job_still_read words.cert text before.shelf.contents after.shelf.contents written rule words.job r kept.job kept.cert bytes_read.1)
+            (cert_can_be_read words.cert text before.shelf.contents after.shelf.contents written short) (check_accepts r h));
       }
 
 -- ---- a check
@@ -193,22 +193,22 @@ module _ (words : CertWords) (before after : World) (report : Report) where
   pub confirms : Answers before.shelf.contents (asks_cert check_rule words.job words.cert check_report) (reported report) → Leaves before after report.text report.written → IfSome report.recipes IsSearchable → Confirms words before after
   unfolding check_report
   confirms w leaves searched =
-      let came = job_cert_came before.shelf.contents check_rule words.job words.cert check_report report w in
-      let r = came.0 in
-      let read = ok_next (cert_from (length (recipe_land r).top.lo) came.1) _ report came.4 in
+      let bytes_read = job_cert_read before.shelf.contents check_rule words.job words.cert check_report report w in
+      let r = bytes_read.0 in
+      let read = ok_next (cert_from (length (recipe_land r).top.lo) bytes_read.1) _ report bytes_read.4 in
       let content = read.0 in
       let checked = ok_next (valid_from r content) _ report read.2 in
-      let spells = spells_from (length (recipe_land r).top.lo) came.1 content read.1 in
+      let spells = spells_from (length (recipe_land r).top.lo) bytes_read.1 content read.1 in
       let holds = holds_from r content checked.0 checked.1 in
       let is : accepted_report r checked.0.claim ≡ report = (let h : Ok (accepted_report r checked.0.claim) ≡ Ok report = checked.2 in cc) in
       let h : IsSearchable r = subst (λ x. IfSome x.recipes IsSearchable) (sym is) searched in
-      let whole = one_tree (length (recipe_land r).top.lo) came.1 content spells in
+      let whole = one_tree (length (recipe_land r).top.lo) bytes_read.1 content spells in
       record {
         job = r;
         cert = content;
-        text = came.1;
-        comes = came.2;
-        text_comes = came.3;
+        text = bytes_read.1;
+        from_files = bytes_read.2;
+        text_from_file = bytes_read.3;
         spells = spells;
         valid = record { whole = whole; holds = holds.0 };
         means = means (recipe_land r) content.claim content.listed content.lines h.lawful whole holds.0;

@@ -10,14 +10,14 @@ use Rattle.spectral_tables.specs.WeightTable.{IsWeightTable, WeightTable}
 use Rattle.dye_run.specs.Inputs.{◌>>=◌, table_from}
 use Rattle.dye_run.specs.Jobs.{weights_after}
 use Rattle.dye_run.specs.Outcome.{Fault, Outcome, refused}
-use Rattle.dye_run.specs.Views.{came_view}
+use Rattle.dye_run.specs.Views.{bytes_view}
 
--- the bytes that came of a read within a limit
-pub short_of : (limit : ℕ) (came : Option (Vec ℕ)) → IfSome (came_view came) (λ bytes. length bytes ≤ limit) → IfSome came (λ bytes. length bytes.items ≤ limit)
+-- the bytes of a read up to a limit
+pub short_of : (limit : ℕ) (bytes_read : Option (Vec ℕ)) → IfSome (bytes_view bytes_read) (λ bytes. length bytes ≤ limit) → IfSome bytes_read (λ bytes. length bytes.items ≤ limit)
 short_of limit (Some bytes) h = h
 short_of limit None h = tt
 
--- the items from an index on are the one there and those after it
+-- the items from an index on are the item at the index and those after it
 pub items_from : {A : Type 0} (xs : List A) (k : ℕ) (x : A) → k < length xs → x ≡ get_or xs k x → drop k xs ≡ x ∷ drop (k + 1) xs
 items_from xs k x h is = drop-cons xs k x h ∙ (λ i. sym is i ∷ drop (sym (add-one k) i) xs)
 
@@ -25,34 +25,34 @@ items_from xs k x h is = drop-cons xs k x h ∙ (λ i. sym is i ∷ drop (sym (a
 pub file_at : (lights : List JobLight) (k : ℕ) (light : JobLight) (name : List ℕ) → k < length lights → light ≡ get_or lights k light → name ≡ light.weights → name ≡ get_or (map (λ l. l.weights) lights) k []
 file_at lights k light name h is e = e ∙ ap (λ l. l.weights) is ∙ sym (get_or-map (λ l. l.weights) lights k light [] h)
 
-module _ (lights : List JobLight) (came : List (Option (Vec ℕ))) (k : ℕ) (before : List WeightTable) (light : JobLight) (first : Option (Vec ℕ)) (hl : k < length lights) (hc : k < length came) (is_light : light ≡ get_or lights k light) (is_first : first ≡ get_or came k first) where
-  weights_next : weights_after before (map (λ l. l.weights) (drop k lights)) (map came_view (drop k came))
-      ≡ (table_from weight_table_of light.weights (came_view first) >>= (λ t. weights_after (before ++ t ∷ []) (map (λ l. l.weights) (drop (k + 1) lights)) (map came_view (drop (k + 1) came))))
+module _ (lights : List JobLight) (bytes_read : List (Option (Vec ℕ))) (k : ℕ) (before : List WeightTable) (light : JobLight) (first : Option (Vec ℕ)) (hl : k < length lights) (hc : k < length bytes_read) (is_light : light ≡ get_or lights k light) (is_first : first ≡ get_or bytes_read k first) where
+  weights_next : weights_after before (map (λ l. l.weights) (drop k lights)) (map bytes_view (drop k bytes_read))
+      ≡ (table_from weight_table_of light.weights (bytes_view first) >>= (λ t. weights_after (before ++ t ∷ []) (map (λ l. l.weights) (drop (k + 1) lights)) (map bytes_view (drop (k + 1) bytes_read))))
   unfolding weights_after
-  weights_next = λ i. weights_after before (map (λ l. l.weights) (items_from lights k light hl is_light i)) (map came_view (items_from came k first hc is_first i))
+  weights_next = λ i. weights_after before (map (λ l. l.weights) (items_from lights k light hl is_light i)) (map bytes_view (items_from bytes_read k first hc is_first i))
 
   -- one more
-  pub weights_more : (t : WeightTable) (more : List WeightTable) {whole : Result (List WeightTable) Fault} → table_from weight_table_of light.weights (came_view first) ≡ Ok t → more ≡ before ++ t ∷ []
-      → weights_after before (map (λ l. l.weights) (drop k lights)) (map came_view (drop k came)) ≡ whole
-      → weights_after more (map (λ l. l.weights) (drop (k + 1) lights)) (map came_view (drop (k + 1) came)) ≡ whole
+  pub weights_more : (t : WeightTable) (more : List WeightTable) {whole : Result (List WeightTable) Fault} → table_from weight_table_of light.weights (bytes_view first) ≡ Ok t → more ≡ before ++ t ∷ []
+      → weights_after before (map (λ l. l.weights) (drop k lights)) (map bytes_view (drop k bytes_read)) ≡ whole
+      → weights_after more (map (λ l. l.weights) (drop (k + 1) lights)) (map bytes_view (drop (k + 1) bytes_read)) ≡ whole
   weights_more t more read grown so_far =
-      let rest : WeightTable → Result (List WeightTable) Fault = λ t. weights_after (before ++ t ∷ []) (map (λ l. l.weights) (drop (k + 1) lights)) (map came_view (drop (k + 1) came)) in
-      ap (λ m. weights_after m (map (λ l. l.weights) (drop (k + 1) lights)) (map came_view (drop (k + 1) came))) grown ∙ sym (ap (λ r. r >>= rest) read) ∙ sym weights_next ∙ so_far
+      let rest : WeightTable → Result (List WeightTable) Fault = λ t. weights_after (before ++ t ∷ []) (map (λ l. l.weights) (drop (k + 1) lights)) (map bytes_view (drop (k + 1) bytes_read)) in
+      ap (λ m. weights_after m (map (λ l. l.weights) (drop (k + 1) lights)) (map bytes_view (drop (k + 1) bytes_read))) grown ∙ sym (ap (λ r. r >>= rest) read) ∙ sym weights_next ∙ so_far
 
   -- one that is refused
-  pub weights_fault : (why : Option Outcome) {whole : Result (List WeightTable) Fault} → IfSome why (λ o. (fault : Fault) × (o ≡ refused fault) × (table_from weight_table_of light.weights (came_view first) ≡ Err fault))
-      → weights_after before (map (λ l. l.weights) (drop k lights)) (map came_view (drop k came)) ≡ whole
+  pub weights_fault : (why : Option Outcome) {whole : Result (List WeightTable) Fault} → IfSome why (λ o. (fault : Fault) × (o ≡ refused fault) × (table_from weight_table_of light.weights (bytes_view first) ≡ Err fault))
+      → weights_after before (map (λ l. l.weights) (drop k lights)) (map bytes_view (drop k bytes_read)) ≡ whole
       → IfSome why (λ o. (fault : Fault) × (o ≡ refused fault) × (whole ≡ Err fault))
   weights_fault (Some o) refuses so_far =
-      let rest : WeightTable → Result (List WeightTable) Fault = λ t. weights_after (before ++ t ∷ []) (map (λ l. l.weights) (drop (k + 1) lights)) (map came_view (drop (k + 1) came)) in
+      let rest : WeightTable → Result (List WeightTable) Fault = λ t. weights_after (before ++ t ∷ []) (map (λ l. l.weights) (drop (k + 1) lights)) (map bytes_view (drop (k + 1) bytes_read)) in
       (refuses.0, refuses.1, sym so_far ∙ weights_next ∙ ap (λ r. r >>= rest) refuses.2)
   weights_fault None refuses so_far = tt
 
 -- all are read
-pub weights_all : (lights : List JobLight) (came : List (Option (List ℕ))) (k : ℕ) (before : List WeightTable) {whole : Result (List WeightTable) Fault} → length lights ≤ k
-    → weights_after before (map (λ l. l.weights) (drop k lights)) came ≡ whole → whole ≡ Ok before
+pub weights_all : (lights : List JobLight) (bytes_read : List (Option (List ℕ))) (k : ℕ) (before : List WeightTable) {whole : Result (List WeightTable) Fault} → length lights ≤ k
+    → weights_after before (map (λ l. l.weights) (drop k lights)) bytes_read ≡ whole → whole ≡ Ok before
 unfolding weights_after
-weights_all lights came k before h so_far = sym so_far ∙ ap (λ ls. weights_after before (map (λ l. l.weights) ls) came) (drop_all k lights h)
+weights_all lights bytes_read k before h so_far = sym so_far ∙ ap (λ ls. weights_after before (map (λ l. l.weights) ls) bytes_read) (drop_all k lights h)
 
 -- weights have as many wavelengths as the curves of a book
 pub book_waves : (book : Book) (w : WeightTable) → IsBook book → IsWeightTable w → length w.weights ≡ wave_count book

@@ -1,4 +1,4 @@
--- What was read and judged is the input of a command, and what is made of it its outcome.
+-- What was read and judged is the input of a command, and the judgement of the input is the outcome.
 use Rattle.std.proofs.Common.{◌≡◌, ℕ, List, Option, Some, None, IfSome, IfOk, Result, Ok, Err, refl, sym, ap, ◌∙◌, subst, inl, inr, arith}
 use Rattle.job_file.specs.Resolve.{ResolvedJob}
 use Rattle.job_file.specs.ResolvedView.{resolved_view}
@@ -7,7 +7,7 @@ use Rattle.shelf_io.specs.View.{ShelfView}
 use Rattle.shade_report.specs.declared.refusal.Refusal.{Refusal}
 use Rattle.dye_run.specs.Answers as spec
 use Rattle.dye_run.specs.Asking.{Answers, Asking}
-use Rattle.dye_run.specs.Due.{Comes, FailsToRead}
+use Rattle.dye_run.specs.Due.{CanBeRead, FailsToRead}
 use Rattle.dye_run.specs.Endings.{Reaches}
 use Rattle.dye_run.specs.Inputs.{◌>>=◌, Tables, asks_tables, table_limit}
 use Rattle.dye_run.specs.Judging.{Gives, IsInput, Stops, StopsAt, stop_outcome}
@@ -15,37 +15,37 @@ use Rattle.dye_run.specs.Outcome.{Fault, Outcome, outcome_of, refusal_outcome, r
 use Rattle.dye_run.specs.declared.cert_files.WithCert.{WithCert}
 use Rattle.dye_run.specs.declared.stop.Stop.{Stop}
 
--- a step that refuses its input gives the outcome of the refusal
+-- a step that refuses its input has the refusal as outcome
 refused_outcome : {Y : Type 0} (asking : Asking) (judged : Y → Result spec.Report Fault) (before after : ShelfView) (why : Option Outcome) (step : Result Y Fault)
     → ((o : Outcome) → o ≡ outcome_of (step >>= judged) → Answers before.contents asking o)
     → IfSome why (λ o. (fault : Fault) × (o ≡ refused fault) × (step ≡ Err fault)) → IfSome why (λ o. Reaches asking before after o)
-refused_outcome asking judged before after (Some o) step comes gives = inl (comes o (gives.1 ∙ sym (ap (λ s. outcome_of (s >>= judged)) gives.2)))
-refused_outcome asking judged before after None step comes gives = tt
+refused_outcome asking judged before after (Some o) step from_files gives = inl (from_files o (gives.1 ∙ sym (ap (λ s. outcome_of (s >>= judged)) gives.2)))
+refused_outcome asking judged before after None step from_files gives = tt
 
--- what came of the reads and was judged by a step is an input
+-- what was read and then judged by a step is an input
 pub input_by : {X Y : Type 0} (asking : Asking) (judged : Y → Result spec.Report Fault) (view : X → Y) (before after : ShelfView) (result : Result X Stop) (step : Result Y Fault)
     → ((o : Outcome) → o ≡ outcome_of (step >>= judged) → Answers before.contents asking o)
     → Gives view result step → IsInput asking (λ x. judged (view x)) before after result
-input_by asking judged view before after (Ok x) step comes gives = comes (outcome_of (judged (view x))) (sym (ap (λ s. outcome_of (s >>= judged)) gives))
-input_by asking judged view before after (Err why) step comes gives = refused_outcome asking judged before after (stop_outcome why) step comes gives
+input_by asking judged view before after (Ok x) step from_files gives = from_files (outcome_of (judged (view x))) (sym (ap (λ s. outcome_of (s >>= judged)) gives))
+input_by asking judged view before after (Err why) step from_files gives = refused_outcome asking judged before after (stop_outcome why) step from_files gives
 
 -- the same of a job with the text of a certificate
 pub cert_input : (asking : Asking) (judged : ResolvedJob → List ℕ → Result spec.Report Fault) (before after : ShelfView) (result : Result WithCert Stop) (step : Result ResolvedJob Fault) (text : List ℕ)
     → ((o : Outcome) → o ≡ outcome_of (step >>= (λ r. judged r text)) → Answers before.contents asking o)
     → Gives (λ w. resolved_view w.resolved) result step → IfOk result (λ w. w.text.items ≡ text)
     → IsInput asking (λ w. judged (resolved_view w.resolved) w.text.items) before after result
-cert_input asking judged before after (Ok w) step text comes gives same =
-    comes (outcome_of (judged (resolved_view w.resolved) w.text.items)) (ap (λ t. outcome_of (judged (resolved_view w.resolved) t)) same ∙ sym (ap (λ s. outcome_of (s >>= (λ r. judged r text))) gives))
-cert_input asking judged before after (Err why) step text comes gives same = refused_outcome asking (λ r. judged r text) before after (stop_outcome why) step comes gives
+cert_input asking judged before after (Ok w) step text from_files gives same =
+    from_files (outcome_of (judged (resolved_view w.resolved) w.text.items)) (ap (λ t. outcome_of (judged (resolved_view w.resolved) t)) same ∙ sym (ap (λ s. outcome_of (s >>= (λ r. judged r text))) gives))
+cert_input asking judged before after (Err why) step text from_files gives same = refused_outcome asking (λ r. judged r text) before after (stop_outcome why) step from_files gives
 
-unreadable_second : (curves weights : List ℕ) (before mid after : ShelfView) (came : Option (List ℕ)) (why : Option Outcome) → OnlyReads (λ n. n ≡ curves) before mid → Comes before.contents curves table_limit came
+unreadable_second : (curves weights : List ℕ) (before mid after : ShelfView) (bytes_read : Option (List ℕ)) (why : Option Outcome) → OnlyReads (λ n. n ≡ curves) before mid → CanBeRead before.contents curves table_limit bytes_read
     → IfSome why (λ o. (o ≡ unreadable weights) × FailsToRead mid after weights)
     → (judged : Tables → Result spec.Report Fault) → IfSome why (λ o. Reaches (asks_tables curves weights judged) before after o)
-unreadable_second curves weights before mid after came (Some o) only comes stops = λ judged.
+unreadable_second curves weights before mid after bytes_read (Some o) only from_files stops = λ judged.
     inr (
       weights,
       record {
-        due = inr (came, comes, inl refl);
+        due = inr (bytes_read, from_files, inl refl);
         failed = record {
           rose = let g = only.grows weights in let f = stops.1.rose in omega (arith, g, f);
           unpromised = λ h. stops.1.unpromised (only.reads_kept weights h).0;
@@ -53,14 +53,14 @@ unreadable_second curves weights before mid after came (Some o) only comes stops
       },
       stops.0,
     )
-unreadable_second curves weights before mid after came None only comes stops = λ judged. tt
+unreadable_second curves weights before mid after bytes_read None only from_files stops = λ judged. tt
 
 -- the second of two due files could not be read
-pub stops_second : (curves weights : List ℕ) (before mid after : ShelfView) (came : Option (List ℕ)) (why : Stop) → OnlyReads (λ n. n ≡ curves) before mid → Comes before.contents curves table_limit came → StopsAt weights mid after why
+pub stops_second : (curves weights : List ℕ) (before mid after : ShelfView) (bytes_read : Option (List ℕ)) (why : Stop) → OnlyReads (λ n. n ≡ curves) before mid → CanBeRead before.contents curves table_limit bytes_read → StopsAt weights mid after why
     → (judged : Tables → Result spec.Report Fault) → Stops (asks_tables curves weights judged) before after why
-stops_second curves weights before mid after came why only comes stops = unreadable_second curves weights before mid after came (stop_outcome why) only comes stops
+stops_second curves weights before mid after bytes_read why only from_files stops = unreadable_second curves weights before mid after bytes_read (stop_outcome why) only from_files stops
 
--- the command comes to the refusal that it stops with
+-- the refusal that a command stops with is its outcome
 pub reached_by : (asking : Asking) (before after : ShelfView) (why : Stop) (refusal : Refusal) → Some (refusal_outcome refusal) ≡ stop_outcome why → Stops asking before after why → Reaches asking before after (refusal_outcome refusal)
 reached_by asking before after why refusal is stops =
     let P : Option Outcome → Type 0 = λ w. IfSome w (λ o. Reaches asking before after o) in subst P (sym is) stops

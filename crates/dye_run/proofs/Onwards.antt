@@ -1,4 +1,4 @@
--- Due files come one after the other, and what a command goes on with is what it asked for from the first on.
+-- Due files are read one after the other: what holds for the rest of a command holds for the whole command.
 use Rattle.std.proofs.Common.{◌≡◌, ◌⊎◌, ◌+◌, ◌≤◌, ◌<◌, ℕ, List, [], ◌∷◌, ◌++◌, length, drop, get_or, Option, Some, None, IfSome, Ok, refl, sym, ap, ◌∙◌, subst, inl, inr, arith, append_assoc, add-one}
 use Rattle.std.proofs.Math.Seq.{drop-cons}
 use Rattle.std.proofs.lemmas.List.{append-nil, drop_all}
@@ -6,7 +6,7 @@ use Rattle.shelf_io.specs.Changes.{HandsOut, OnlyReads}
 use Rattle.shelf_io.specs.Contents.{Contents}
 use Rattle.shelf_io.specs.View.{ShelfView}
 use Rattle.dye_run.specs.Asking.{Answers, Asking, IsDue, asks}
-use Rattle.dye_run.specs.Due.{Comes, FailsToRead}
+use Rattle.dye_run.specs.Due.{CanBeRead, FailsToRead}
 use Rattle.dye_run.specs.Endings.{Reaches}
 use Rattle.dye_run.specs.Inputs.{table_limit}
 use Rattle.job_file.specs.Job.{Values}
@@ -17,25 +17,25 @@ use Rattle.dye_run.specs.Outcome.{Outcome, unreadable}
 use Rattle.dye_run.specs.declared.stop.Stop.{Stop}
 use Rattle.dye_run.proofs.DueReads.{first_read, then_read}
 
--- nothing has come yet
+-- nothing has been read yet
 pub goes_nowhere : (asking : Asking) (view : ShelfView) → GoesOn asking asking view view
 goes_nowhere asking view = record { answers = λ o w. w; due = λ n d. d; reads = λ after r. r; grows = λ n. omega arith; kept = λ n h. h }
 
--- one due file has come
-pub goes_on : (name : List ℕ) (limit : ℕ) (next : Option (List ℕ) → Asking) (came : Option (List ℕ)) (before now : ShelfView) → OnlyReads (λ n. n ≡ name) before now → HandsOut name (limit + 1) before now → Comes before.contents name limit came
-    → GoesOn (asks name limit next) (next came) before now
-goes_on name limit next came before now only handed comes =
-    let ByAnswer : Outcome → Option Contents → Type 0 = λ o contents. Answers contents (next came) o in
-    let ByName : List ℕ → Option Contents → Type 0 = λ n contents. IsDue contents (next came) n in
+-- one due file has been read
+pub goes_on : (name : List ℕ) (limit : ℕ) (next : Option (List ℕ) → Asking) (bytes_read : Option (List ℕ)) (before now : ShelfView) → OnlyReads (λ n. n ≡ name) before now → HandsOut name (limit + 1) before now → CanBeRead before.contents name limit bytes_read
+    → GoesOn (asks name limit next) (next bytes_read) before now
+goes_on name limit next bytes_read before now only handed from_files =
+    let ByAnswer : Outcome → Option Contents → Type 0 = λ o contents. Answers contents (next bytes_read) o in
+    let ByName : List ℕ → Option Contents → Type 0 = λ n contents. IsDue contents (next bytes_read) n in
     record {
-      answers = λ o w. (came, comes, subst (ByAnswer o) only.contents w);
-      due = λ n d. inr (came, comes, subst (ByName n) only.contents d);
-      reads = λ after r. then_read name limit next came before now after only handed comes r;
+      answers = λ o w. (bytes_read, from_files, subst (ByAnswer o) only.contents w);
+      due = λ n d. inr (bytes_read, from_files, subst (ByName n) only.contents d);
+      reads = λ after r. then_read name limit next bytes_read before now after only handed from_files r;
       grows = only.grows;
       kept = λ n h. (only.reads_kept n h).0;
     }
 
--- some files have come, and then others
+-- some files have been read, and then others
 pub goes_further : (first second third : Asking) (before mid now : ShelfView) → GoesOn first second before mid → GoesOn second third mid now → GoesOn first third before now
 goes_further first second third before mid now p q = record {
   answers = λ o w. p.answers o (q.answers o w);
@@ -45,7 +45,7 @@ goes_further first second third before mid now p q = record {
   kept = λ n h. q.kept n (p.kept n h);
 }
 
--- a command that comes to an outcome from here on comes to it from before on
+-- an outcome of the rest of a command is an outcome of the whole command
 reaches_from : (asking rest : Asking) (before now after : ShelfView) (o : Outcome) → GoesOn asking rest before now → Reaches rest now after o → Reaches asking before after o
 reaches_from asking rest before now after o g (inl w) = inl (g.answers o w)
 reaches_from asking rest before now after o g (inr u) = inr (
@@ -64,7 +64,7 @@ stops_by : (asking rest : Asking) (before now after : ShelfView) (why : Option O
 stops_by asking rest before now after (Some o) g s = reaches_from asking rest before now after o g s
 stops_by asking rest before now after None g s = tt
 
--- one that stops from here on stops from before on
+-- where the rest of a command stops, the whole command stops
 pub stops_from : (asking rest : Asking) (before now after : ShelfView) (why : Stop) → GoesOn asking rest before now → Stops rest now after why → Stops asking before after why
 stops_from asking rest before now after why g s = stops_by asking rest before now after (stop_outcome why) g s
 
@@ -80,7 +80,7 @@ pub stops_first : (name : List ℕ) (limit : ℕ) (next : Option (List ℕ) → 
     → StopsHaving (asks name limit next) before after why
 stops_first name limit next before after why only handed s = record { stops = unreadable_by name limit next before after (stop_outcome why) s; reads = first_read name limit next before after only handed }
 
--- memory ran out after a due file had come
+-- memory ran out after a due file had been read
 pub stops_after : (name : List ℕ) (limit : ℕ) (next : Option (List ℕ) → Asking) (before after : ShelfView) (why : Stop) → OnlyReads (λ n. n ≡ name) before after → HandsOut name (limit + 1) before after → stop_outcome why ≡ None
     → StopsHaving (asks name limit next) before after why
 stops_after name limit next before after why only handed none = record {
@@ -90,87 +90,87 @@ stops_after name limit next before after why only handed none = record {
 
 -- ---- files of tables, one after the other
 
--- those from an index on
+-- the files from an index on
 abbrev pub asks_from : List (List ℕ) → ℕ → List (Option (List ℕ)) → (List (Option (List ℕ)) → Asking) → Asking
-asks_from names k came next = asks_each (drop k names) (λ rest. next (came ++ rest))
+asks_from names k bytes_read next = asks_each (drop k names) (λ rest. next (bytes_read ++ rest))
 
--- the next of them
-pub next_file : (names : List (List ℕ)) (k : ℕ) (came : List (Option (List ℕ))) (next : List (Option (List ℕ)) → Asking) → k < length names
-    → asks_from names k came next ≡ asks (get_or names k []) table_limit (λ first. asks_from names (k + 1) (came ++ first ∷ []) next)
+-- the next file
+pub next_file : (names : List (List ℕ)) (k : ℕ) (bytes_read : List (Option (List ℕ))) (next : List (Option (List ℕ)) → Asking) → k < length names
+    → asks_from names k bytes_read next ≡ asks (get_or names k []) table_limit (λ first. asks_from names (k + 1) (bytes_read ++ first ∷ []) next)
 unfolding asks_each
-next_file names k came next h =
-    ap (λ ns. asks_each ns (λ rest. next (came ++ rest))) (drop-cons names k [] h)
-    ∙ (λ i. asks (get_or names k []) table_limit (λ first. asks_each (drop (sym (add-one k) i) names) (λ rest. next (sym (append_assoc came (first ∷ []) rest) i))))
+next_file names k bytes_read next h =
+    ap (λ ns. asks_each ns (λ rest. next (bytes_read ++ rest))) (drop-cons names k [] h)
+    ∙ (λ i. asks (get_or names k []) table_limit (λ first. asks_each (drop (sym (add-one k) i) names) (λ rest. next (sym (append_assoc bytes_read (first ∷ []) rest) i))))
 
 -- none is left
-pub no_file : (names : List (List ℕ)) (k : ℕ) (came : List (Option (List ℕ))) (next : List (Option (List ℕ)) → Asking) → length names ≤ k → asks_from names k came next ≡ next came
+pub no_file : (names : List (List ℕ)) (k : ℕ) (bytes_read : List (Option (List ℕ))) (next : List (Option (List ℕ)) → Asking) → length names ≤ k → asks_from names k bytes_read next ≡ next bytes_read
 unfolding asks_each
-no_file names k came next h = ap (λ ns. asks_each ns (λ rest. next (came ++ rest))) (drop_all k names h) ∙ ap next (append-nil came)
+no_file names k bytes_read next h = ap (λ ns. asks_each ns (λ rest. next (bytes_read ++ rest))) (drop_all k names h) ∙ ap next (append-nil bytes_read)
 
-module _ (asking : Asking) (names : List (List ℕ)) (k : ℕ) (came : List (Option (List ℕ))) (next : List (Option (List ℕ)) → Asking) (name : List ℕ) (before mid now : ShelfView) where
+module _ (asking : Asking) (names : List (List ℕ)) (k : ℕ) (bytes_read : List (Option (List ℕ))) (next : List (Option (List ℕ)) → Asking) (name : List ℕ) (before mid now : ShelfView) where
   -- the next file is the one of this name
-  here : k < length names → name ≡ get_or names k [] → asks_from names k came next ≡ asks name table_limit (λ first. asks_from names (k + 1) (came ++ first ∷ []) next)
-  here h is = next_file names k came next h ∙ ap (λ n. asks n table_limit (λ first. asks_from names (k + 1) (came ++ first ∷ []) next)) (sym is)
+  here : k < length names → name ≡ get_or names k [] → asks_from names k bytes_read next ≡ asks name table_limit (λ first. asks_from names (k + 1) (bytes_read ++ first ∷ []) next)
+  here h is = next_file names k bytes_read next h ∙ ap (λ n. asks n table_limit (λ first. asks_from names (k + 1) (bytes_read ++ first ∷ []) next)) (sym is)
 
-  -- it has come
-  pub files_more : (first : Option (List ℕ)) (more : List (Option (List ℕ))) → k < length names → name ≡ get_or names k [] → more ≡ came ++ first ∷ []
-      → OnlyReads (λ n. n ≡ name) mid now → HandsOut name (table_limit + 1) mid now → Comes mid.contents name table_limit first
-      → GoesOn asking (asks_from names k came next) before mid → GoesOn asking (asks_from names (k + 1) more next) before now
-  files_more first more h is grown only handed comes g =
-      let rest : Option (List ℕ) → Asking = λ first. asks_from names (k + 1) (came ++ first ∷ []) next in
-      let one : GoesOn (asks name table_limit rest) (rest first) mid now = goes_on name table_limit rest first mid now only handed comes in
+  -- it has been read
+  pub files_more : (first : Option (List ℕ)) (more : List (Option (List ℕ))) → k < length names → name ≡ get_or names k [] → more ≡ bytes_read ++ first ∷ []
+      → OnlyReads (λ n. n ≡ name) mid now → HandsOut name (table_limit + 1) mid now → CanBeRead mid.contents name table_limit first
+      → GoesOn asking (asks_from names k bytes_read next) before mid → GoesOn asking (asks_from names (k + 1) more next) before now
+  files_more first more h is grown only handed from_files g =
+      let rest : Option (List ℕ) → Asking = λ first. asks_from names (k + 1) (bytes_read ++ first ∷ []) next in
+      let one : GoesOn (asks name table_limit rest) (rest first) mid now = goes_on name table_limit rest first mid now only handed from_files in
       let both : GoesOn asking (rest first) before now = goes_further asking (asks name table_limit rest) (rest first) before mid now (subst (λ a. GoesOn asking a before mid) (here h is) g) one in
       subst (λ m. GoesOn asking (asks_from names (k + 1) m next) before now) (sym grown) both
 
   -- it could not be read
   pub files_stop : (why : Stop) → k < length names → name ≡ get_or names k [] → OnlyReads (λ n. n ≡ name) mid now → HandsOut name (table_limit + 1) mid now → StopsAt name mid now why
-      → GoesOn asking (asks_from names k came next) before mid → StopsHaving asking before now why
+      → GoesOn asking (asks_from names k bytes_read next) before mid → StopsHaving asking before now why
   files_stop why h is only handed s g =
-      let rest : Option (List ℕ) → Asking = λ first. asks_from names (k + 1) (came ++ first ∷ []) next in
+      let rest : Option (List ℕ) → Asking = λ first. asks_from names (k + 1) (bytes_read ++ first ∷ []) next in
       having_from asking (asks name table_limit rest) before mid now why (subst (λ a. GoesOn asking a before mid) (here h is) g) (stops_first name table_limit rest mid now why only handed s)
 
-  -- memory ran out when it had come
+  -- memory ran out after it had been read
   pub files_after : (why : Stop) → k < length names → name ≡ get_or names k [] → OnlyReads (λ n. n ≡ name) mid now → HandsOut name (table_limit + 1) mid now → stop_outcome why ≡ None
-      → GoesOn asking (asks_from names k came next) before mid → StopsHaving asking before now why
+      → GoesOn asking (asks_from names k bytes_read next) before mid → StopsHaving asking before now why
   files_after why h is only handed none g =
-      let rest : Option (List ℕ) → Asking = λ first. asks_from names (k + 1) (came ++ first ∷ []) next in
+      let rest : Option (List ℕ) → Asking = λ first. asks_from names (k + 1) (bytes_read ++ first ∷ []) next in
       having_from asking (asks name table_limit rest) before mid now why (subst (λ a. GoesOn asking a before mid) (here h is) g) (stops_after name table_limit rest mid now why only handed none)
 
--- all have come
-pub files_all : (asking : Asking) (names : List (List ℕ)) (k : ℕ) (came : List (Option (List ℕ))) (next : List (Option (List ℕ)) → Asking) (before now : ShelfView) → length names ≤ k
-    → GoesOn asking (asks_from names k came next) before now → GoesOn asking (next came) before now
-files_all asking names k came next before now h g = subst (λ a. GoesOn asking a before now) (no_file names k came next h) g
+-- all have been read
+pub files_all : (asking : Asking) (names : List (List ℕ)) (k : ℕ) (bytes_read : List (Option (List ℕ))) (next : List (Option (List ℕ)) → Asking) (before now : ShelfView) → length names ≤ k
+    → GoesOn asking (asks_from names k bytes_read next) before now → GoesOn asking (next bytes_read) before now
+files_all asking names k bytes_read next before now h g = subst (λ a. GoesOn asking a before now) (no_file names k bytes_read next h) g
 
--- ---- a file of curves, and then others
+-- ---- a curve file, and then others
 
-abbrev pub asks_behind : List ℕ → List (List ℕ) → (Option (List ℕ) → List (Option (List ℕ)) → Asking) → Asking
-asks_behind curves names finish = asks curves table_limit (λ came. asks_each names (finish came))
+abbrev pub asks_after : List ℕ → List (List ℕ) → (Option (List ℕ) → List (Option (List ℕ)) → Asking) → Asking
+asks_after curves names finish = asks curves table_limit (λ bytes_read. asks_each names (finish bytes_read))
 
-module _ (curves name : List ℕ) (same : curves ≡ name) (names files : List (List ℕ)) (equal : names ≡ files) (finish : Option (List ℕ) → List (Option (List ℕ)) → Asking) (came : Option (List ℕ)) (before mid after : ShelfView) (only : OnlyReads (λ n. n ≡ curves) before mid) (handed : HandsOut curves (table_limit + 1) before mid) (comes : Comes before.contents curves table_limit came) where
-  curves_come : GoesOn (asks_behind curves names finish) (asks_each names (finish came)) before mid
-  curves_come = goes_on curves table_limit (λ c. asks_each names (finish c)) came before mid only handed comes
+module _ (curves name : List ℕ) (same : curves ≡ name) (names files : List (List ℕ)) (equal : names ≡ files) (finish : Option (List ℕ) → List (Option (List ℕ)) → Asking) (bytes_read : Option (List ℕ)) (before mid after : ShelfView) (only : OnlyReads (λ n. n ≡ curves) before mid) (handed : HandsOut curves (table_limit + 1) before mid) (from_files : CanBeRead before.contents curves table_limit bytes_read) where
+  curves_go_on : GoesOn (asks_after curves names finish) (asks_each names (finish bytes_read)) before mid
+  curves_go_on = goes_on curves table_limit (λ c. asks_each names (finish c)) bytes_read before mid only handed from_files
 
   -- one of the others stopped the command
-  pub behind_stop : (why : Stop) → StopsHaving (asks_each names (finish came)) mid after why → StopsHaving (asks_behind name files finish) before after why
-  behind_stop why s =
-      let stopped : StopsHaving (asks_behind curves names finish) before after why = having_from (asks_behind curves names finish) (asks_each names (finish came)) before mid after why curves_come s in
-      subst (λ ns. StopsHaving (asks_behind name ns finish) before after why) equal (subst (λ n. StopsHaving (asks_behind n names finish) before after why) same stopped)
+  pub rest_stops : (why : Stop) → StopsHaving (asks_each names (finish bytes_read)) mid after why → StopsHaving (asks_after name files finish) before after why
+  rest_stops why s =
+      let stopped : StopsHaving (asks_after curves names finish) before after why = having_from (asks_after curves names finish) (asks_each names (finish bytes_read)) before mid after why curves_go_on s in
+      subst (λ ns. StopsHaving (asks_after name ns finish) before after why) equal (subst (λ n. StopsHaving (asks_after n names finish) before after why) same stopped)
 
-  -- all came
-  pub behind_come : (others : List (Option (List ℕ))) → GoesOn (asks_each names (finish came)) (finish came others) mid after → GoesOn (asks_behind name files finish) (finish came others) before after
-  behind_come others g =
-      let all : GoesOn (asks_behind curves names finish) (finish came others) before after = goes_further (asks_behind curves names finish) (asks_each names (finish came)) (finish came others) before mid after curves_come g in
-      subst (λ ns. GoesOn (asks_behind name ns finish) (finish came others) before after) equal (subst (λ n. GoesOn (asks_behind n names finish) (finish came others) before after) same all)
+  -- all were read
+  pub rest_goes_on : (others : List (Option (List ℕ))) → GoesOn (asks_each names (finish bytes_read)) (finish bytes_read others) mid after → GoesOn (asks_after name files finish) (finish bytes_read others) before after
+  rest_goes_on others g =
+      let all : GoesOn (asks_after curves names finish) (finish bytes_read others) before after = goes_further (asks_after curves names finish) (asks_each names (finish bytes_read)) (finish bytes_read others) before mid after curves_go_on g in
+      subst (λ ns. GoesOn (asks_after name ns finish) (finish bytes_read others) before after) equal (subst (λ n. GoesOn (asks_after n names finish) (finish bytes_read others) before after) same all)
 
 -- a refusal that owns its texts stops the command as the refusal did
 pub stops_owned : (asking : Asking) (before after : ShelfView) (why owned : Stop) → (stop_outcome owned ≡ stop_outcome why) ⊎ (stop_outcome owned ≡ None) → Stops asking before after why → Stops asking before after owned
 stops_owned asking before after why owned (inl same) s = let P : Option Outcome → Type 0 = λ w. IfSome w (λ o. Reaches asking before after o) in subst P (sym same) s
 stops_owned asking before after why owned (inr none) s = let P : Option Outcome → Type 0 = λ w. IfSome w (λ o. Reaches asking before after o) in subst P (sym none) tt
 
--- a job that came and was accepted by itself: what comes next is asked for
-pub accepted : (rule : BatchRule) (name : List ℕ) (next : Values → Asking) (came : Option (List ℕ)) (j : Values) (before now : ShelfView) → job_from rule name came ≡ Ok j
-    → OnlyReads (λ n. n ≡ name) before now → HandsOut name (job_limit + 1) before now → Comes before.contents name job_limit came
+-- a job was read and accepted by itself: the files that it names are due next
+pub accepted : (rule : BatchRule) (name : List ℕ) (next : Values → Asking) (bytes_read : Option (List ℕ)) (j : Values) (before now : ShelfView) → job_from rule name bytes_read ≡ Ok j
+    → OnlyReads (λ n. n ≡ name) before now → HandsOut name (job_limit + 1) before now → CanBeRead before.contents name job_limit bytes_read
     → GoesOn (asks_accepted rule name next) (next j) before now
-accepted rule name next came j before now is only handed comes =
-    let onwards : GoesOn (asks_accepted rule name next) (unless_faulty_job (job_from rule name came) next) before now = goes_on name job_limit (λ c. unless_faulty_job (job_from rule name c) next) came before now only handed comes in
+accepted rule name next bytes_read j before now is only handed from_files =
+    let onwards : GoesOn (asks_accepted rule name next) (unless_faulty_job (job_from rule name bytes_read) next) before now = goes_on name job_limit (λ c. unless_faulty_job (job_from rule name c) next) bytes_read before now only handed from_files in
     subst (λ r. GoesOn (asks_accepted rule name next) (unless_faulty_job r next) before now) is onwards

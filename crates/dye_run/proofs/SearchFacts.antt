@@ -56,11 +56,11 @@ shown_more r recipes k steps each more one h is so_far grown shown =
     ap (map shown_view) grown ∙ map-append shown_view each (one ∷ []) ∙ (λ i. so_far i ++ shown i ∷ []) ∙ (λ i. map f (take k recipes) ++ f (is i) ∷ [])
     ∙ sym (map-append f (take k recipes) (get_or recipes k steps ∷ [])) ∙ ap (map f) (sym (take-suc recipes k steps h)) ∙ (λ i. map f (take (sym (add-one k) i) recipes))
 
--- the text on what a search ended with
+-- the text about the result of a search
 abbrev pub result_text_is : ResolvedJob → SearchResult → List ℕ
 result_text_is r s = outcome_text r.job s.claim s.boxes (matched_values r s.claim) (map (recipe_values r) s.listed)
 
--- the recipes of what a search returned are of the grid
+-- the recipes of the outcome of a search are of the grid
 module _ (r : ResolvedJob) (lawful : IsLawful (recipe_land r)) where
   pub found_claims : {E : Type 0} (result : Result Outcome E) → IfOk result (λ o. IsValid (recipe_land r) o.cert.claim o.cert.undecided o.cert.lines) → IfOk result (λ o. IfSome (claimed_recipe o.cert.claim) (IsRecipe r.grid))
   found_claims (Ok o) valid = claimed_recipe_fits r lawful o.cert.claim o.cert.undecided o.cert.lines valid
@@ -90,7 +90,7 @@ pub matched_fits : (r : ResolvedJob) (claim : Claim) (lent : Option (Bor Shown))
 matched_fits r claim None matched land fits is values = tt
 matched_fits r claim (Some m) matched land fits is values = match_fits r claim (shown_view m.now) land fits (ap (option_map shown_view) is ∙ values)
 
--- it is shown as it is lent
+-- a borrowed recipe is shown as the same recipe
 lent_values : (lent : Option (Bor Shown)) → option_map (λ m. shown_view m.now) lent ≡ option_map shown_view (option_copied lent)
 lent_values None = refl
 lent_values (Some m) = refl
@@ -105,10 +105,10 @@ each_fits r each recipes land all is = λ k d h.
     let f : ArrayVec ℕ → RecipeValues = λ s. recipe_values r s.items in
     let none : ArrayVec ℕ = record { items = [] } in
     let count : length each ≡ length recipes = sym (length-map each shown_view) ∙ ap length is ∙ length-map recipes f in
-    let within : k < length recipes = subst (λ n. k < n) count h in
+    let below_end : k < length recipes = subst (λ n. k < n) count h in
     let same : f (get_or recipes k none) ≡ shown_view (get_or each k d) =
-    sym (get_or-map f recipes k none (shown_view d) within) ∙ ap (λ l. get_or l k (shown_view d)) (sym is) ∙ get_or-map shown_view each k d (shown_view d) h in
-    subst (FitsJob r.job) same (recipe_fits r (get_or recipes k none).items land (all k none within))
+    sym (get_or-map f recipes k none (shown_view d) below_end) ∙ ap (λ l. get_or l k (shown_view d)) (sym is) ∙ get_or-map shown_view each k d (shown_view d) h in
+    subst (FitsJob r.job) same (recipe_fits r (get_or recipes k none).items land (all k none below_end))
 
 composed : (r : ResolvedJob) (recipes : List (ArrayVec ℕ)) → map (λ s. recipe_values r s.items) recipes ≡ map (recipe_values r) (map (λ s. s.items) recipes)
 composed r [] = refl

@@ -25,7 +25,7 @@ use Rattle.dye_run.proofs.Colours.{no_more}
 use Rattle.dye_run.proofs.Proper.{IsProper, proper_report, proper_then}
 use Rattle.dye_run.proofs.Verdicts.{stands}
 
--- a recipe has as many steps of each dye at the least as at the most
+-- a recipe as a box: its lower and its upper number of steps of each dye are equal
 one_recipe : (dyes : List DyeData) (recipe : List ℕ) → All (λ p. p.fewest ≤ p.most) (portions dyes recipe recipe)
 unfolding portions
 one_recipe [] recipe = λ k d h. absurd (omega arith)

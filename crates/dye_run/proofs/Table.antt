@@ -1,4 +1,4 @@
--- What each status tells, read off the outcome of a call.
+-- What each status means, from the outcome of a call.
 use Rattle.std.proofs.Common.{◌≡◌, ◌⊎◌, ℕ, List, length, Option, Some, None, Result, Ok, IsTrue, IsSomeAnd, IfSome, option_map, refl, sym, ap, ◌∙◌, subst, inl, inr}
 use Rattle.shelf_io.specs.Contents.{Contents}
 use Rattle.shelf_io.specs.Counts.{Rose}
@@ -10,7 +10,7 @@ use Rattle.dye_run.specs.Asking.{Answers, Asking, answers, asks, held_or_missing
 use Rattle.dye_run.specs.Check.{check_report, check_rule}
 use Rattle.dye_run.specs.Commands.{asking_for, asking_of}
 use Rattle.dye_run.specs.Demo.{demo_job}
-use Rattle.dye_run.specs.Due.{Comes, within}
+use Rattle.dye_run.specs.Due.{CanBeRead, up_to_limit}
 use Rattle.dye_run.specs.Endings.{Ended, IsSearched, IsUnreadable, Leaves, Reaches, World}
 use Rattle.dye_run.specs.Endings as ended
 use Rattle.dye_run.specs.Forms.{Form, check, correct, demo, diff, ks, lab, predict, show, written_by, xyz}
@@ -36,11 +36,11 @@ use Rattle.dye_run.proofs.SearchLaws.{check_proper, demo_proper, search_proper}
 use Rattle.dye_run.proofs.ShowLaws.{show_proper}
 use Rattle.dye_run.proofs.Xyz.{xyz_stands}
 
--- what a command over a file of curves and one of weights may come to
+-- the possible outcomes of a command over a curve file and a weights file
 tables_proper : (contents : Option Contents) (curves weights : List ℕ) (judged : Tables → Result Report Fault) (o : Outcome) → ((tables : Tables) → IsProper None (outcome_of (judged tables))) → Answers contents (asks_tables curves weights judged) o → IsProper None o
 tables_proper contents curves weights judged o proper w = subst (IsProper None) (sym w.2.2) (proper_then (tables_from curves weights w.0 w.2.0) judged proper)
 
--- what each command may come to
+-- the possible outcomes of each command
 pub form_proper : (contents : Option Contents) (form : Form) (o : Outcome) → Answers contents (asking_of form) o → IsProper (written_by (Some form)) o
 form_proper contents (ks words) o w = subst (IsProper None) (sym w.2) (proper_then (table_from curve_table_of words.curves w.0) _ (ks_proper words))
 form_proper contents (xyz words) o w = tables_proper contents words.curves words.weights _ o (coordinates_proper xyz_evaluations xyz_stands words) w
@@ -52,19 +52,19 @@ form_proper contents (correct words) o w = job_proper contents With words.job (s
 form_proper contents (check words) o w = cert_proper contents check_rule words.job words.cert check_report o check_proper w
 form_proper contents (demo number) o w = subst (IsProper None) (sym w) (demo_proper number (demo_job number))
 
--- where the files are known, the outcome is the one that they give
-same_came : (contents : Option Contents) (c : Contents) (name : List ℕ) (limit : ℕ) (came : Option (List ℕ)) → contents ≡ Some c → Comes contents name limit came → IsSomeAnd (c.file name) (λ bytes. came ≡ within limit bytes)
-same_came contents c name limit came e w =
-    let P : Option Contents → Type 0 = λ o. IfSome o (λ c. IsSomeAnd (c.file name) (λ bytes. came ≡ within limit bytes)) in subst P e w.known
+-- where the files are known, the outcome is the one that they determine
+same_bytes_read : (contents : Option Contents) (c : Contents) (name : List ℕ) (limit : ℕ) (bytes_read : Option (List ℕ)) → contents ≡ Some c → CanBeRead contents name limit bytes_read → IsSomeAnd (c.file name) (λ bytes. bytes_read ≡ up_to_limit limit bytes)
+same_bytes_read contents c name limit bytes_read e w =
+    let P : Option Contents → Type 0 = λ o. IfSome o (λ c. IsSomeAnd (c.file name) (λ bytes. bytes_read ≡ up_to_limit limit bytes)) in subst P e w.known
 
-came_only : (file : Option (List ℕ)) (name : List ℕ) (limit : ℕ) (came : Option (List ℕ)) (go : Option (List ℕ) → Result Outcome (List ℕ)) (r : Result Outcome (List ℕ)) → IsSomeAnd file (λ bytes. came ≡ within limit bytes) → held_or_missing name file (λ bytes. go (within limit bytes)) ≡ r → go came ≡ r
-came_only None name limit came go r h e = absurd h
-came_only (Some bytes) name limit came go r h e = ap go h ∙ e
+only_bytes_read : (file : Option (List ℕ)) (name : List ℕ) (limit : ℕ) (bytes_read : Option (List ℕ)) (go : Option (List ℕ) → Result Outcome (List ℕ)) (r : Result Outcome (List ℕ)) → IsSomeAnd file (λ bytes. bytes_read ≡ up_to_limit limit bytes) → held_or_missing name file (λ bytes. go (up_to_limit limit bytes)) ≡ r → go bytes_read ≡ r
+only_bytes_read None name limit bytes_read go r h e = absurd h
+only_bytes_read (Some bytes) name limit bytes_read go r h e = ap go h ∙ e
 
 only_outcome : (contents : Option Contents) (c : Contents) (asking : Asking) (o p : Outcome) → contents ≡ Some c → result_of c.file asking ≡ Ok o → Answers contents asking p → p ≡ o
 only_outcome contents c (answers x) o p e r w = w ∙ cc
 only_outcome contents c (asks name limit next) o p e r w =
-    only_outcome contents c (next w.0) o p e (came_only (c.file name) name limit w.0 (λ came. result_of c.file (next came)) (Ok o) (same_came contents c name limit w.0 e w.1) r) w.2
+    only_outcome contents c (next w.0) o p e (only_bytes_read (c.file name) name limit w.0 (λ bytes_read. result_of c.file (next bytes_read)) (Ok o) (same_bytes_read contents c name limit w.0 e w.1) r) w.2
 
 -- the status of a report is of its kind
 report_kind : (c : Conclusion) → kind_of (conclusion_status c) ≡ table.report
@@ -87,7 +87,7 @@ fault_kind (grammar fault) = refl
 fault_kind (invalid line reason) = refl
 
 module _ (form : Option Form) (before after : World) (status : ℕ) where
-  -- where this outcome was printed, the status tells what its kind means
+  -- where this outcome was printed, what the kind of the status means holds
   abbrev IsExplained : Outcome → Type 0
   IsExplained o = status ≡ status_of o → Leaves before after (text_of o) (written_of o) → IsSearched o → table.Tells form before after (kind_of status) status
 
@@ -139,7 +139,7 @@ pub status_tells : (form : Option Form) (before after : World) (status : ℕ) �
 status_tells form before after status e = record { tells = tells_ended form before after status e; no_form = no_form_ended form before after status e }
 
 module _ (form : Option Form) (before after : World) (status : ℕ) where
-  printed : (o p : Outcome) → p ≡ o → status ≡ status_of p → Leaves before after (text_of p) (written_of p) → table.IsSaid form before after o status
+  printed : (o p : Outcome) → p ≡ o → status ≡ status_of p → Leaves before after (text_of p) (written_of p) → table.IsPrinted form before after o status
   printed o p e s l = inr (s ∙ ap status_of e, subst (λ o. Leaves before after (text_of o) (written_of o)) e l)
 
   -- the file that could not be written is that of the outcome

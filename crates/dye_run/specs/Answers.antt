@@ -10,18 +10,18 @@ use Rattle.metamerism.specs.declared.outcomes.Verdict.{Verdict}
 use Rattle.dye_run.specs.declared.statuses.Conclusion.{Conclusion}
 use Rattle.dye_run.specs.declared.statuses.Conclusion.TheVariants.{NoVerdict}
 
--- the base scale: a printed end counts so many parts of one
+-- the base scale: a printed end counts parts of 1 / 10^12
 abbrev pub base_unit : ℕ
 base_unit = 10 ^ 12
 
--- a quantity that is evaluated with outward rounding: the label of its line, its enclosure at each scale, and the
--- tolerance in thousandths that it is held to, where it is
+-- a quantity that is evaluated with outward rounding: the label of its line, its enclosure at each scale, and its
+-- tolerance in thousandths, if it has one
 pub record Evaluation : Type 0 where
   pub label : List ℕ
   pub at : ℕ → Ends
   pub tolerance : Option ℕ
 
--- a quantity that is held to no tolerance
+-- a quantity without a tolerance
 abbrev pub evaluation : List ℕ → (ℕ → Ends) → Evaluation
 evaluation label at = record { label = label; at = at; tolerance = None }
 
@@ -29,17 +29,17 @@ evaluation label at = record { label = label; at = at; tolerance = None }
 abbrev pub verdict_on : Evaluation → ℕ → ℕ → Verdict
 verdict_on e tolerance n = light_verdict n tolerance 1 (e.at n)
 
--- where it passes or fails by the ends at the base scale, it does so by those at a finer scale n
+-- where the verdict by the ends at the base scale is a pass or a fail, that at a finer scale n is the same
 abbrev pub VerdictStands : Evaluation → ℕ → Type 0
 VerdictStands e n = IfSome e.tolerance (λ t.
     (verdict_on e t base_unit ≡ Pass → verdict_on e t n ≡ Pass) × (verdict_on e t base_unit ≡ Fail 1 → verdict_on e t n ≡ Fail 1))
 
--- at every finer scale the enclosure lies within that at the base scale, and the verdict stands
+-- at every finer scale the enclosure is within that at the base scale, and a pass or a fail stays the same
 pub record StandsFiner (e : Evaluation) : Type 0 where
   pub encloses : (m : ℕ) → 0 < m → Encloses m (e.at base_unit) (e.at (m * base_unit))
   pub verdict : (m : ℕ) → 0 < m → VerdictStands e (m * base_unit)
 
--- one line: a label, and both ends with 12 places
+-- one line: a label, and both ends with 12 decimal places
 abbrev pub line : List ℕ → Ends → List ℕ
 line label e = label ++ 32 ∷ pair_text e.lo e.hi ++ 10 ∷ []
 
@@ -47,12 +47,12 @@ line label e = label ++ 32 ∷ pair_text e.lo e.hi ++ 10 ∷ []
 abbrev pub line_of : Evaluation → List ℕ
 line_of e = line e.label (e.at base_unit)
 
--- a line for each
+-- a line for each evaluation
 abbrev pub lines_of : List Evaluation → List ℕ
 lines_of evaluations = flat_map line_of evaluations
 
 -- a report: how it ends, its text, the evaluations that the text shows, the name and the bytes of the file that is written,
--- where the command writes one, and the job whose recipes were searched or checked, where some were
+-- if the command writes one, and the job whose recipes were searched or checked, if any were
 pub record Report : Type 0 where
   pub conclusion : Conclusion
   pub text : List ℕ

@@ -1,15 +1,15 @@
--- What a command asks for, and then answers: its files, and its outcome.
+-- The files that a command asks for, and then its outcome.
 use Rattle.std.specs.Prelude.{◌≡◌, ◌⊎◌, ◌+◌, ◌-◌, ◌≤◌, ℕ, List, Option, Some, None, Result, Ok, Err, if◌then◌else◌}
 use Rattle.std.specs.Str.{bytes_eq}
 use Rattle.shelf_io.specs.Changes.{OnlyReads}
 use Rattle.shelf_io.specs.Contents.{Contents}
 use Rattle.shelf_io.specs.View.{ShelfView}
-use Rattle.dye_run.specs.Due.{Comes, within}
+use Rattle.dye_run.specs.Due.{CanBeRead, up_to_limit}
 use Rattle.dye_run.specs.Outcome.{Outcome}
 
--- A command reads its due files one after the other, and judges them when all have come. `asks` is a read of the
--- file of this name, of at most so many bytes, and what the command goes on with: it is given the bytes, or None
--- where the file has more
+-- A command reads its due files one after the other, and judges them when all have been read. `asks` is a read of the
+-- file with this name, of at most `limit` bytes, and the rest of the command, which is given the bytes, or None where
+-- the file has more
 pub data Asking : Type 0 where
   answers : Outcome → Asking
   asks : (name : List ℕ) (limit : ℕ) → (Option (List ℕ) → Asking) → Asking
@@ -18,34 +18,34 @@ abbrev pub held_or_missing : {T : Type 0} → List ℕ → Option (List ℕ) →
 held_or_missing name None go = Err name
 held_or_missing name (Some bytes) go = go bytes
 
--- the outcome over these files, or the first due name that is not held
+-- the outcome over these files, or the first due name that has no file
 abbrev pub result_of : (List ℕ → Option (List ℕ)) → Asking → Result Outcome (List ℕ)
 result_of files (answers o) = Ok o
-result_of files (asks name limit next) = held_or_missing name (files name) (λ bytes. result_of files (next (within limit bytes)))
+result_of files (asks name limit next) = held_or_missing name (files name) (λ bytes. result_of files (next (up_to_limit limit bytes)))
 
--- this is an outcome, for what may come of the reads: where the files are known, no other is
+-- this is the outcome for some possible results of the reads; where the files are known, only one outcome is possible
 abbrev pub Answers : Option Contents → Asking → Outcome → Type 0
 Answers contents (answers given) o = o ≡ given
-Answers contents (asks name limit next) o = (came : Option (List ℕ)) × Comes contents name limit came × Answers contents (next came) o
+Answers contents (asks name limit next) o = (bytes_read : Option (List ℕ)) × CanBeRead contents name limit bytes_read × Answers contents (next bytes_read) o
 
--- a file of this name is due, for what may come of the reads before it
+-- a file with this name is due, for some possible results of the reads before it
 abbrev pub IsDue : Option Contents → Asking → List ℕ → Type 0
 IsDue contents (answers o) name = ⊥
 IsDue contents (asks first limit next) name =
-    (name ≡ first) ⊎ ((came : Option (List ℕ)) × Comes contents first limit came × IsDue contents (next came) name)
+    (name ≡ first) ⊎ ((bytes_read : Option (List ℕ)) × CanBeRead contents first limit bytes_read × IsDue contents (next bytes_read) name)
 
--- how many bytes of a name one due read may take: one more than its limit
+-- how many bytes of the file with a name one due read may take: one more than its limit
 abbrev pub due_bytes : List ℕ → ℕ → List ℕ → ℕ
 due_bytes first limit name = if bytes_eq name first then limit + 1 else 0
 
--- so many bytes of the name may be taken: those of each due read of it, which is made once
+-- this many bytes of the file with the name may be taken: those of each due read of it, which is made once
 abbrev pub MayTake : Option Contents → Asking → List ℕ → ℕ → Type 0
 MayTake contents (answers o) name count = count ≡ 0
 MayTake contents (asks first limit next) name count =
     (count ≤ due_bytes first limit name)
-    ⊎ ((came : Option (List ℕ)) × Comes contents first limit came × ((rest : ℕ) × MayTake contents (next came) name rest × (count ≤ due_bytes first limit name + rest)))
+    ⊎ ((bytes_read : Option (List ℕ)) × CanBeRead contents first limit bytes_read × ((rest : ℕ) × MayTake contents (next bytes_read) name rest × (count ≤ due_bytes first limit name + rest)))
 
--- due files alone were read, and of each no more than its limit and one byte
+-- only due files were read, and of each at most one byte more than its limit
 pub record ReadsDue (asking : Asking) (before after : ShelfView) : Type 0 where
   pub only : OnlyReads (IsDue before.contents asking) before after
   pub taken : (n : List ℕ) → MayTake before.contents asking n (after.handed n - before.handed n)

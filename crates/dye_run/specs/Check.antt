@@ -24,7 +24,7 @@ abbrev pub unless_misspelled : Result Content CertFault → Result Content Fault
 unless_misspelled (Ok content) = Ok content
 unless_misspelled (Err fault) = Err (grammar fault)
 
--- the certificate that a text spells, of recipes with so many dyes
+-- the certificate that a text spells, of recipes with this number of dyes
 unfoldable pub cert_from : ℕ → List ℕ → Result Content Fault
 cert_from dims text = unless_misspelled (cert_of dims text)
 
@@ -40,7 +40,7 @@ valid_from r content = unless_failing content (first_failure (recipe_land r) con
 abbrev pub accepted_report : ResolvedJob → Claim → Report
 accepted_report r claim = record { conclusion = NoVerdict; text = accepted_text claim; evaluations = []; written = None; recipes = Some r }
 
--- the report, of a job and the text of a certificate
+-- the report, from a job and the text of a certificate
 unfoldable pub check_report : ResolvedJob → List ℕ → Result Report Fault
 check_report r text = do
   content ← cert_from (length (recipe_land r).top.lo) text

@@ -9,8 +9,8 @@ use Rattle.shelf_io.specs.View.{ShelfView, SinkView}
 use Rattle.dye_run.specs.Endings.{FailsToWrite, World, not_written_status}
 use Rattle.dye_run.specs.Outcome.{not_written, text_of}
 
--- A text was put, and its status is the result. Or the put failed, which was not promised to succeed, and the result is the
--- status of that
+-- A text was put, and the result is its status. Or the put, which was not promised to succeed, failed, and the result is the
+-- status of a failed put
 pub data Prints (text : List ℕ) (status : ℕ) (before after : SinkView) (result : ℕ) : Type 0 where
   whole : after.taken ≡ append_known before.taken text
       → after.faults ≡ before.faults
@@ -22,7 +22,7 @@ pub data Prints (text : List ℕ) (status : ℕ) (before after : SinkView) (resu
       → (IsTrue (before.puts_promised (length text)) → ⊥)
       → Prints text status before after result
 
--- the file was written whole, where there is one, and nothing else was
+-- the file was written whole, and no other file was written
 pub record WritesFile (name bytes : List ℕ) (before after : ShelfView) : Type 0 where
   pub contents : after.contents ≡ option_map (write_bytes name bytes) before.contents
   pub only : OnlyWrites name (length bytes) before after
@@ -31,7 +31,8 @@ abbrev pub IsWritten : Option (List ℕ × List ℕ) → (before after : ShelfVi
 IsWritten None before after = after ≡ before
 IsWritten (Some file) before after = WritesFile file.0 file.1 before after
 
--- The file was written and then the text was printed; or the file could not be written, and that was printed
+-- The file, if there is one, was written, and then the text was printed; or the file could not be written, and a text that says
+-- so was printed
 pub data Delivers (file : Option (List ℕ × List ℕ)) (text : List ℕ) (status : ℕ) (before after : World) (result : ℕ) : Type 0 where
   printed : IsWritten file before.shelf after.shelf
       → Prints text status before.sink after.sink result

@@ -18,7 +18,7 @@ abbrev pub demo_words : List (List ℕ) → Option ℕ
 demo_words (word ∷ []) = number_in 0 999999 word
 demo_words words = None
 
--- what the generated job of a number comes to over its files
+-- the generated job with a number, resolved over its files
 abbrev pub demo_job : ℕ → ResolvedJob
 demo_job number = resolved_of (draws number)
 

@@ -56,7 +56,7 @@ verdict_name Pass = codes "pass"
 verdict_name (Fail number) = codes "fail"
 verdict_name Undecided = codes "undecided"
 
--- the line of a difference, and a line for its verdict where it is held to a tolerance
+-- the line of a difference, and a line for its verdict where there is a tolerance
 abbrev pub difference_report : Option ℕ → Evaluation → Report
 difference_report None e = plain_report (e ∷ [])
 difference_report (Some t) e =
@@ -68,8 +68,7 @@ difference_report (Some t) e =
       recipes = None;
     }
 
--- the report, of the curves and the weights of the files: a missing column is that of the standard before that of the
--- sample
+-- the report, from the curves and the weights of the files: where both columns are missing, that of the standard is named
 unfoldable pub diff_report : DiffWords → Tables → Result Report Fault
 diff_report words tables = do
   standard ← curve_from words.curves words.standard tables.book

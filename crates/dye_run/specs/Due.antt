@@ -1,18 +1,18 @@
--- What comes of a due read.
+-- The possible results of a due read.
 use Rattle.std.specs.Prelude.{◌≡◌, ℕ, ◌≤◌, List, length, Option, Some, None, IfSome, IsSomeAnd, IsTrue, nat_le, if◌then◌else◌}
 use Rattle.shelf_io.specs.Contents.{Contents}
 use Rattle.shelf_io.specs.Counts.{Rose}
 use Rattle.shelf_io.specs.View.{ShelfView}
 
 -- the bytes, or None where there are more than the limit
-abbrev pub within : ℕ → List ℕ → Option (List ℕ)
-within limit bytes = if nat_le (length bytes) limit then Some bytes else None
+abbrev pub up_to_limit : ℕ → List ℕ → Option (List ℕ)
+up_to_limit limit bytes = if nat_le (length bytes) limit then Some bytes else None
 
--- what may come of a read of the file under the name: where the files are known, those of the file, and else any bytes
--- within the limit, or None
-pub record Comes (contents : Option Contents) (name : List ℕ) (limit : ℕ) (came : Option (List ℕ)) : Type 0 where
-  pub short : IfSome came (λ bytes. length bytes ≤ limit)
-  pub known : IfSome contents (λ c. IsSomeAnd (c.file name) (λ bytes. came ≡ within limit bytes))
+-- a possible result of a read of the file with the name: where the files are known, the bytes of that file up to the limit,
+-- and else any bytes up to the limit, or None
+pub record CanBeRead (contents : Option Contents) (name : List ℕ) (limit : ℕ) (bytes_read : Option (List ℕ)) : Type 0 where
+  pub short : IfSome bytes_read (λ bytes. length bytes ≤ limit)
+  pub known : IfSome contents (λ c. IsSomeAnd (c.file name) (λ bytes. bytes_read ≡ up_to_limit limit bytes))
 
 -- a read of the name failed, and it had not been promised to succeed
 pub record FailsToRead (before after : ShelfView) (name : List ℕ) : Type 0 where

@@ -1,10 +1,10 @@
--- What came of the files of a job, as the code keeps it.
+-- The bytes read from the files of a job, as the code keeps them.
 use Rattle.std.specs.Prelude.{◌≡◌, ◌≤◌, ℕ, All, IfSome, length}
 use Rattle.std.specs.Option.{ForSome}
-use Rattle.dye_run.specs.declared.jobs.CameFiles.{CameFiles}
+use Rattle.dye_run.specs.declared.jobs.FilesRead.{FilesRead}
 
--- one file of weights for each of so many lights, and all within their limits
-pub record FitsFiles (lights : ℕ) (came : CameFiles) : Type 0 where
-  pub curves : ForSome came.curves (λ bytes. length bytes.items ≤ 1000000)
-  pub count : length came.weights.items ≡ lights
-  pub short : All (λ c. IfSome c (λ bytes. length bytes.items ≤ 1000000)) came.weights.items
+-- a weights file for each of the lights, and every file up to its limit
+pub record FitsFiles (lights : ℕ) (bytes_read : FilesRead) : Type 0 where
+  pub curves : ForSome bytes_read.curves (λ bytes. length bytes.items ≤ 1000000)
+  pub count : length bytes_read.weights.items ≡ lights
+  pub short : All (λ c. IfSome c (λ bytes. length bytes.items ≤ 1000000)) bytes_read.weights.items

@@ -1,4 +1,4 @@
--- What a command that searches or checks says of the recipes of a job, in the words of those recipes: the plain list of them,
+-- What a command that searches or checks claims about the recipes of a job, in terms of the recipes: the plain list of them,
 -- their prices, limits and verdicts.
 use Rattle.std.specs.Prelude.{◌≡◌, ◌⊎◌, ℕ, List, length, map, Option, Some, Ok}
 use Rattle.std.specs.Io.KnownBytes.{append_known}
@@ -21,7 +21,7 @@ use Rattle.dye_run.specs.Asking.{result_of}
 use Rattle.dye_run.specs.Check.{accepted_report, check_rule}
 use Rattle.dye_run.specs.Commands.{asking_of}
 use Rattle.dye_run.specs.Demo.{demo_job, matched_cost}
-use Rattle.dye_run.specs.Due.{Comes}
+use Rattle.dye_run.specs.Due.{CanBeRead}
 use Rattle.dye_run.specs.Endings.{World, with_written}
 use Rattle.dye_run.specs.Forms.{Form, check, correct, demo, predict}
 use Rattle.dye_run.specs.Inputs.{table_limit}
@@ -31,29 +31,30 @@ use Rattle.dye_run.specs.Search.{conclusion_of, matched_values}
 use Rattle.dye_run.specs.Show.{recipe_values}
 use Rattle.dye_run.specs.Words.{CertWords}
 
--- a job is that of the files: it is what came of the file of this name, of its curves and of the weights of its lights
-pub record JobComes (contents : Option Contents) (rule : BatchRule) (name : List ℕ) (r : ResolvedJob) : Type 0 where
-  pub job_came : Option (List ℕ)
+-- a job is that of the files: it is resolved from the bytes read from the file with this name, from its curve file and from the
+-- weights files of its lights
+pub record IsJobOfFiles (contents : Option Contents) (rule : BatchRule) (name : List ℕ) (r : ResolvedJob) : Type 0 where
+  pub job_bytes : Option (List ℕ)
   pub values : Values
-  pub curves_came : Option (List ℕ)
-  pub weights_came : List (Option (List ℕ))
+  pub curves_bytes : Option (List ℕ)
+  pub weights_bytes : List (Option (List ℕ))
   pub tables : JobTables
-  pub job : Comes contents name job_limit job_came
-  pub curves : Comes contents values.head.curves table_limit curves_came
-  pub weights : AllZip (λ file came. Comes contents file table_limit came) (light_files values) weights_came
-  pub accepted : job_from rule name job_came ≡ Ok values
-  pub read : job_tables_from values curves_came weights_came ≡ Ok tables
+  pub job : CanBeRead contents name job_limit job_bytes
+  pub curves : CanBeRead contents values.head.curves table_limit curves_bytes
+  pub weights : AllZip (λ file bytes_read. CanBeRead contents file table_limit bytes_read) (light_files values) weights_bytes
+  pub accepted : job_from rule name job_bytes ≡ Ok values
+  pub read : job_tables_from values curves_bytes weights_bytes ≡ Ok tables
   pub resolved : resolved_from name values tables ≡ Ok r
 
--- over these files, with the certificate written, `check` accepts it
+-- over these files, with the certificate written, `check` accepts the certificate
 abbrev pub CheckAccepts : Option Contents → CertWords → ResolvedJob → Claim → Type 0
 CheckAccepts contents words job claim =
     (c : Contents) → contents ≡ Some c → result_of c.file (asking_of (check words)) ≡ Ok (reported (accepted_report job claim))
 
 -- A search ended with this status: 0 with a match, 5 with none, 6 with a floor.
 -- `holds`: the match is the first recipe of the plain list, by price and then by steps, that keeps the limits and passes; or
--- there is none; or the budget did not suffice, and every recipe that does costs at least the floor.
--- `means`: every recipe that keeps the limits and stands before the match (or costs less than the floor, or is any, where there
+-- there is none; or the budget did not suffice, and every recipe that keeps the limits and passes costs at least the floor.
+-- `means`: every recipe that keeps the limits and comes before the match (or costs less than the floor, or is any, where there
 -- is no match) fails or is listed, and each listed one keeps the limits and is undecided.
 -- The report and the certificate are printed and written, and `check` accepts the certificate
 pub record Finds (rule : BatchRule) (words : CertWords) (before after : World) (status : ℕ) : Type 0 where
@@ -62,7 +63,7 @@ pub record Finds (rule : BatchRule) (words : CertWords) (before after : World) (
   pub listed : List (List ℕ)
   pub lines : List CertLine
   pub boxes : ℕ
-  pub comes : JobComes before.shelf.contents rule words.job job
+  pub from_files : IsJobOfFiles before.shelf.contents rule words.job job
   pub ends : conclusion_status (conclusion_of claim) ≡ status
   pub holds : ClaimHolds (recipe_land job) job.job.head.budget claim
   pub means : Means (recipe_land job) listed claim
@@ -75,8 +76,8 @@ pub record Confirms (words : CertWords) (before after : World) : Type 0 where
   pub job : ResolvedJob
   pub cert : Content
   pub text : List ℕ
-  pub comes : JobComes before.shelf.contents check_rule words.job job
-  pub text_comes : Comes before.shelf.contents words.cert cert_limit (Some text)
+  pub from_files : IsJobOfFiles before.shelf.contents check_rule words.job job
+  pub text_from_file : CanBeRead before.shelf.contents words.cert cert_limit (Some text)
   pub spells : cert_of (length (recipe_land job).top.lo) text ≡ Ok cert
   pub valid : IsValid (recipe_land job) cert.claim cert.listed cert.lines
   pub means : Means (recipe_land job) cert.listed cert.claim
@@ -98,7 +99,7 @@ pub record Summarises (number : ℕ) (before after : World) (status : ℕ) : Typ
 abbrev pub IsFoundStatus : ℕ → Type 0
 IsFoundStatus status = (status ≡ 0) ⊎ ((status ≡ 5) ⊎ (status ≡ 6))
 
--- what the status of a command on a certificate says of the recipes
+-- what the status of a command that searches or checks means for the recipes
 pub record SaysOfRecipes (form : Option Form) (before after : World) (status : ℕ) : Type 0 where
   pub predicts : (words : CertWords) → form ≡ Some (predict words) → IsFoundStatus status → Finds Without words before after status
   pub corrects : (words : CertWords) → form ≡ Some (correct words) → IsFoundStatus status → Finds With words before after status

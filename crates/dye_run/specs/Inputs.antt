@@ -1,4 +1,4 @@
--- The files of a command, by their shape: curves alone, or curves and weights.
+-- The files of a command: a curve file, or a curve file and a weights file.
 use Rattle.std.specs.Prelude.{ℕ, List, Option, Some, None, Result, Ok, Err}
 use Rattle.spectral_tables.specs.CurveBook.{Book, curve_named}
 use Rattle.spectral_tables.specs.CurveFile.{curve_table_of}
@@ -14,16 +14,16 @@ abbrev pub ◌>>=◌ : {A B : Type 0} → Result A Fault → (A → Result B Fau
 (Ok x) >>= f = f x
 (Err fault) >>= f = Err fault
 
--- a file of curves or weights has at most so many bytes
+-- how many bytes a curve file or a weights file may have
 abbrev pub table_limit : ℕ
 table_limit = 1000000
 
--- what was made of a file, or why the file is refused
+-- the value read from a file, or the fault that refuses the file
 abbrev pub unless_faulty : {T : Type 0} → List ℕ → Result T TableFault → Result T Fault
 unless_faulty name (Ok value) = Ok value
 unless_faulty name (Err fault) = Err (table name fault)
 
--- what a reader makes of a file, from what came of its read
+-- the table of a file by its reader, from the bytes read
 unfoldable pub table_from : {T : Type 0} → (List ℕ → Result T TableFault) → List ℕ → Option (List ℕ) → Result T Fault
 table_from read name None = Err (too_long name)
 table_from read name (Some bytes) = unless_faulty name (read bytes)
@@ -41,19 +41,19 @@ pub record Tables : Type 0 where
   pub book : Book
   pub light : WeightTable
 
--- both, from what came of their reads: a fault of the curves before one of the weights
-unfoldable pub tables_from : (curves weights : List ℕ) → (curves_came weights_came : Option (List ℕ)) → Result Tables Fault
-tables_from curves weights curves_came weights_came = do
-  book ← table_from curve_table_of curves curves_came
-  light ← table_from weight_table_of weights weights_came
+-- both, from the bytes read: a fault of the curves is named before one of the weights
+unfoldable pub tables_from : (curves weights : List ℕ) → (curves_bytes weights_bytes : Option (List ℕ)) → Result Tables Fault
+tables_from curves weights curves_bytes weights_bytes = do
+  book ← table_from curve_table_of curves curves_bytes
+  light ← table_from weight_table_of weights weights_bytes
   Ok (record { book = book; light = light })
 
--- a file of curves is due, and judged when it has come
+-- a curve file is due, and judged when it has been read
 abbrev pub asks_book : List ℕ → (Book → Result Report Fault) → Asking
-asks_book curves judged = asks curves table_limit (λ came. answers (outcome_of (table_from curve_table_of curves came >>= judged)))
+asks_book curves judged = asks curves table_limit (λ bytes_read. answers (outcome_of (table_from curve_table_of curves bytes_read >>= judged)))
 
--- a file of curves and then one of weights are due, and both are judged when they have come
+-- a curve file and then a weights file are due, and both are judged when they have been read
 abbrev pub asks_tables : (curves weights : List ℕ) → (Tables → Result Report Fault) → Asking
 asks_tables curves weights judged =
-    asks curves table_limit (λ curves_came. asks weights table_limit (λ weights_came.
-    answers (outcome_of (tables_from curves weights curves_came weights_came >>= judged))))
+    asks curves table_limit (λ curves_bytes. asks weights table_limit (λ weights_bytes.
+    answers (outcome_of (tables_from curves weights curves_bytes weights_bytes >>= judged))))

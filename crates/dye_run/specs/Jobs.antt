@@ -13,58 +13,58 @@ use Rattle.dye_run.specs.Asking.{Asking, answers, asks}
 use Rattle.dye_run.specs.Inputs.{◌>>=◌, table_from, table_limit}
 use Rattle.dye_run.specs.Outcome.{Fault, job, outcome_of, refused, too_long}
 
--- a file of a job has at most so many bytes
+-- how many bytes a job file may have
 abbrev pub job_limit : ℕ
 job_limit = 1000000
 
--- what was made of a job, or why its file is refused
+-- the value made of a job, or the fault that refuses its file
 abbrev pub unless_broken : {T : Type 0} → List ℕ → Result T JobFault → Result T Fault
 unless_broken name (Ok value) = Ok value
 unless_broken name (Err fault) = Err (job name fault)
 
--- the job of a file, from what came of its read
+-- the job of a file, from the bytes read
 unfoldable pub job_from : BatchRule → List ℕ → Option (List ℕ) → Result Values Fault
 job_from rule name None = Err (too_long name)
 job_from rule name (Some bytes) = unless_broken name (job_of rule bytes)
 
--- the files of weights that a job names, in the order of its lights
+-- the weights files that a job names, in the order of its lights
 abbrev pub light_files : Values → List (List ℕ)
 light_files j = map (λ light. light.weights) j.light
 
--- the weights of files after those before them, from what came of their reads
+-- the weights so far and then those of the named files, from the bytes read
 unfoldable pub weights_after : List WeightTable → List (List ℕ) → List (Option (List ℕ)) → Result (List WeightTable) Fault
-weights_after before [] came = Ok before
+weights_after before [] bytes_read = Ok before
 weights_after before (name ∷ names) [] = Ok before
-weights_after before (name ∷ names) (first ∷ came) = do
+weights_after before (name ∷ names) (first ∷ bytes_read) = do
   weights ← table_from weight_table_of name first
-  weights_after (before ++ weights ∷ []) names came
+  weights_after (before ++ weights ∷ []) names bytes_read
 
 -- the curves of a job, and the weights of its lights
 pub record JobTables : Type 0 where
   pub book : Book
   pub weights : List WeightTable
 
--- both, from what came of their reads: a fault of the curves before those of the weights in their order
+-- both, from the bytes read: a fault of the curves is named before those of the weights in their order
 unfoldable pub job_tables_from : Values → Option (List ℕ) → List (Option (List ℕ)) → Result JobTables Fault
-job_tables_from j curves_came weights_came = do
-  book ← table_from curve_table_of j.head.curves curves_came
-  weights ← weights_after [] (light_files j) weights_came
+job_tables_from j curves_bytes weights_bytes = do
+  book ← table_from curve_table_of j.head.curves curves_bytes
+  weights ← weights_after [] (light_files j) weights_bytes
   Ok (record { book = book; weights = weights })
 
 -- these files of tables are due, one after the other
 unfoldable pub asks_each : List (List ℕ) → (List (Option (List ℕ)) → Asking) → Asking
 asks_each [] next = next []
-asks_each (name ∷ names) next = asks name table_limit (λ first. asks_each names (λ came. next (first ∷ came)))
+asks_each (name ∷ names) next = asks name table_limit (λ first. asks_each names (λ bytes_read. next (first ∷ bytes_read)))
 
--- the curves of a job are due and then its weights, and what comes next may look at what came of them
+-- the curve file of a job is due and then its weights files, and the rest of the command is given the bytes read
 abbrev pub asks_job_files : Values → (Option (List ℕ) → List (Option (List ℕ)) → Asking) → Asking
-asks_job_files j next = asks j.head.curves table_limit (λ curves_came. asks_each (light_files j) (next curves_came))
+asks_job_files j next = asks j.head.curves table_limit (λ curves_bytes. asks_each (light_files j) (next curves_bytes))
 
--- all of them are judged when they have come
+-- all of them are judged when they have been read
 abbrev pub asks_job_tables : Values → (JobTables → Result Report Fault) → Asking
-asks_job_tables j judged = asks_job_files j (λ curves_came weights_came. answers (outcome_of (job_tables_from j curves_came weights_came >>= judged)))
+asks_job_tables j judged = asks_job_files j (λ curves_bytes weights_bytes. answers (outcome_of (job_tables_from j curves_bytes weights_bytes >>= judged)))
 
--- what a job comes to over its tables
+-- a job resolved over its tables
 abbrev pub resolved_from : List ℕ → Values → JobTables → Result ResolvedJob Fault
 resolved_from name j tables = unless_broken name (resolved_job tables.book j tables.weights)
 
@@ -72,15 +72,15 @@ abbrev pub unless_faulty_job : Result Values Fault → (Values → Asking) → A
 unless_faulty_job (Ok j) next = next j
 unless_faulty_job (Err fault) next = answers (refused fault)
 
--- a job is due, and judged by itself when it has come; what comes next is asked for where it is accepted
+-- a job is due, and judged by itself when it has been read; the rest is asked for only where it is accepted
 abbrev pub asks_accepted : BatchRule → List ℕ → (Values → Asking) → Asking
-asks_accepted rule name next = asks name job_limit (λ came. unless_faulty_job (job_from rule name came) next)
+asks_accepted rule name next = asks name job_limit (λ bytes_read. unless_faulty_job (job_from rule name bytes_read) next)
 
--- a job is due and then its tables, and what it comes to over them is judged
+-- a job is due and then its tables, and the job resolved over them is judged
 abbrev pub asks_job : BatchRule → List ℕ → (ResolvedJob → Result Report Fault) → Asking
 asks_job rule name judged = asks_accepted rule name (λ j. asks_job_tables j (λ tables. resolved_from name j tables >>= judged))
 
--- a file of a certificate has at most so many bytes
+-- how many bytes a certificate file may have
 abbrev pub cert_limit : ℕ
 cert_limit = 64000000
 
@@ -93,23 +93,23 @@ abbrev pub unless_too_long : List ℕ → Option (List ℕ) → Result (List ℕ
 unless_too_long name None = Err (too_long name)
 unless_too_long name (Some bytes) = Ok bytes
 
--- both, from what came of their reads: a fault of a table before a certificate that is too long
+-- both, from the bytes read: a fault of a table is named before a certificate that is too long
 unfoldable pub cert_tables_from : Values → List ℕ → Option (List ℕ) → List (Option (List ℕ)) → Option (List ℕ) → Result CertTables Fault
-cert_tables_from j cert curves_came weights_came cert_came = do
-  tables ← job_tables_from j curves_came weights_came
-  text ← unless_too_long cert cert_came
+cert_tables_from j cert curves_bytes weights_bytes cert_bytes = do
+  tables ← job_tables_from j curves_bytes weights_bytes
+  text ← unless_too_long cert cert_bytes
   Ok (record { tables = tables; text = text })
 
--- the tables of a job are due and then a certificate, and all are judged when they have come
+-- the tables of a job are due and then a certificate, and all are judged when they have been read
 abbrev pub asks_cert_tables : Values → List ℕ → (CertTables → Result Report Fault) → Asking
 asks_cert_tables j cert judged =
-    asks_job_files j (λ curves_came weights_came. asks cert cert_limit (λ cert_came.
-    answers (outcome_of (cert_tables_from j cert curves_came weights_came cert_came >>= judged))))
+    asks_job_files j (λ curves_bytes weights_bytes. asks cert cert_limit (λ cert_bytes.
+    answers (outcome_of (cert_tables_from j cert curves_bytes weights_bytes cert_bytes >>= judged))))
 
--- what a job comes to over its tables, with the text of a certificate
+-- the judgement of a job resolved over its tables, with the text of a certificate
 abbrev pub resolved_then : List ℕ → Values → (ResolvedJob → List ℕ → Result Report Fault) → CertTables → Result Report Fault
 resolved_then name j judged t = resolved_from name j t.tables >>= (λ r. judged r t.text)
 
--- a job is due, then its tables and then a certificate, and what the job comes to is judged with the certificate
+-- a job is due, then its tables and then a certificate, and the resolved job is judged with the certificate
 abbrev pub asks_cert : BatchRule → (name cert : List ℕ) → (ResolvedJob → List ℕ → Result Report Fault) → Asking
 asks_cert rule name cert judged = asks_accepted rule name (λ j. asks_cert_tables j cert (resolved_then name j judged))

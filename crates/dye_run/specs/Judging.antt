@@ -1,4 +1,4 @@
--- What the steps of a command come to, beside their definitions.
+-- The results of the steps of a command in code, compared with their definitions.
 use Rattle.std.specs.Prelude.{◌≡◌, ◌≤◌, ℕ, List, Option, Some, None, IfSome, IsTrue, Result, Ok, Err, option_map}
 use Rattle.box_cert.specs.Spelling.{cert_text, content}
 use Rattle.shelf_io.specs.View.{ShelfView}
@@ -14,7 +14,7 @@ use Rattle.dye_run.specs.declared.stop.OwnedRefusal.TheVariants as owned
 use Rattle.dye_run.specs.declared.stop.Stop.{Stop}
 use Rattle.dye_run.specs.declared.stop.Stop.TheVariants as stop
 
--- what a refusal that owns its texts stands for
+-- the outcome that a refusal which owns its texts stands for
 abbrev pub owned_outcome : OwnedRefusal → Outcome
 owned_outcome owned.Usage = usage
 owned_outcome (owned.Unreadable name) = unreadable name
@@ -27,7 +27,7 @@ owned_outcome (owned.CertGrammar fault) = refused (grammar fault)
 owned_outcome (owned.CertWrong line reason) = refused (invalid line reason)
 owned_outcome (owned.NotWritten name) = not_written name
 
--- what the command comes to, unless memory ran out
+-- the outcome of a command that stopped, unless memory ran out
 abbrev pub stop_outcome : Stop → Option Outcome
 stop_outcome (stop.Refused refusal) = Some (refusal_outcome refusal)
 stop_outcome (stop.Owned refusal) = Some (owned_outcome refusal)
@@ -37,7 +37,7 @@ stop_outcome stop.Memory = None
 abbrev pub Refuses : {Y : Type 0} → Stop → Result Y Fault → Type 0
 Refuses why step = IfSome (stop_outcome why) (λ o. (fault : Fault) × (o ≡ refused fault) × (step ≡ Err fault))
 
--- what a step gives, seen by view, is what its definition gives, unless memory ran out
+-- the value of a step, through `view`, is that of its definition, or the step refuses as its definition does, unless memory ran out
 abbrev pub Gives : {X Y : Type 0} → (X → Y) → Result X Stop → Result Y Fault → Type 0
 Gives view (Ok x) step = step ≡ Ok (view x)
 Gives view (Err why) step = Refuses why step
@@ -46,15 +46,15 @@ Gives view (Err why) step = Refuses why step
 abbrev pub file_view : Option Written → Option (List ℕ × List ℕ)
 file_view written = option_map (λ file. (file.name.text.now, cert_text (content file.cert))) written
 
--- the report has the conclusion, the text and the file of its definition, and the recipes of which it speaks, where it does,
--- can be searched
+-- the report has the conclusion, the text and the file of its definition, and the recipes that it reports on, if any, can be
+-- searched
 pub record Matches (report : Report) (defined : spec.Report) : Type 0 where
   pub conclusion : report.conclusion ≡ defined.conclusion
   pub text : report.text.items ≡ defined.text
   pub written : file_view report.written ≡ defined.written
   pub searched : IfSome defined.recipes IsSearchable
 
--- the same, of a step that reports
+-- the same, for a step that reports
 abbrev pub Reports : Result Report Stop → Result spec.Report Fault → Type 0
 Reports (Ok report) step = (r : spec.Report) × (step ≡ Ok r) × Matches report r
 Reports (Err why) step = Refuses why step
@@ -63,16 +63,17 @@ Reports (Err why) step = Refuses why step
 abbrev pub StopsAt : List ℕ → (before after : ShelfView) → Stop → Type 0
 StopsAt name before after why = IfSome (stop_outcome why) (λ o. (o ≡ unreadable name) × FailsToRead before after name)
 
--- the command comes to the refusal, or memory ran out
+-- the refusal is the outcome of the command, or memory ran out
 abbrev pub Stops : Asking → (before after : ShelfView) → Stop → Type 0
 Stops asking before after why = IfSome (stop_outcome why) (λ o. Reaches asking before after o)
 
--- the command stopped, having read due files alone
+-- the command stopped, after it had read only due files
 pub record StopsHaving (asking : Asking) (before after : ShelfView) (why : Stop) : Type 0 where
   pub stops : Stops asking before after why
   pub reads : ReadsDue asking before after
 
--- all that was due first has come: what the command goes on with from here is what it asked for from before on
+-- the first due files have been read: what holds for the rest of the command from now on holds for the whole command from
+-- before on
 pub record GoesOn (asking rest : Asking) (before now : ShelfView) : Type 0 where
   pub answers : (o : Outcome) → Answers now.contents rest o → Answers before.contents asking o
   pub due : (name : List ℕ) → IsDue now.contents rest name → IsDue before.contents asking name
@@ -80,7 +81,7 @@ pub record GoesOn (asking rest : Asking) (before now : ShelfView) : Type 0 where
   pub grows : (name : List ℕ) → before.read_faults name ≤ now.read_faults name
   pub kept : (name : List ℕ) → IsTrue (before.reads_promised name) → IsTrue (now.reads_promised name)
 
--- the input is what came of the due reads, so that what is made of it is the outcome; or the command stopped
+-- the input was made from the due reads, so that its judgement is the outcome; or the command stopped
 abbrev pub IsInput : {X : Type 0} → Asking → (X → Result spec.Report Fault) → (before after : ShelfView) → Result X Stop → Type 0
 IsInput asking judged before after (Ok x) = Answers before.contents asking (outcome_of (judged x))
 IsInput asking judged before after (Err why) = Stops asking before after why

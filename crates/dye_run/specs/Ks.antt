@@ -22,7 +22,7 @@ ks_evaluations wavelength [] = []
 ks_evaluations wavelength (millionths ∷ curve) =
     evaluation (decimal wavelength) (λ n. ks_at n millionths) ∷ ks_evaluations (wavelength + 10) curve
 
--- the report, of the curves of the file
+-- the report, from the curves of the file
 unfoldable pub ks_report : KsWords → Book → Result Report Fault
 ks_report words book = do
   curve ← curve_from words.curves words.column book

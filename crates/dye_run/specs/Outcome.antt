@@ -1,4 +1,4 @@
--- What a call comes to, with its status and its text: each a table.
+-- The outcomes of a call, and tables of the status and the text of each.
 use Rattle.std.specs.Prelude.{ℕ, List, Option, None, Result, Ok, Err}
 use Rattle.job_file.specs.declared.fault.JobFault.{JobFault}
 use Rattle.box_specs.specs.declared.certificate.CertFault.{CertFault}
@@ -89,7 +89,7 @@ abbrev pub outcome_of : Result Report Fault → Outcome
 outcome_of (Ok report) = reported report
 outcome_of (Err fault) = refused fault
 
--- what a refusal of the code stands for
+-- the outcome that a refusal of the code stands for
 abbrev pub refusal_outcome : Refusal → Outcome
 refusal_outcome why.Usage = usage
 refusal_outcome (why.Unreadable name) = unreadable name.now

@@ -15,7 +15,7 @@ use Rattle.dye_run.specs.Show.{light_evaluations, recipe_values}
 use Rattle.dye_run.specs.declared.statuses.Conclusion.{Conclusion}
 use Rattle.dye_run.specs.declared.statuses.Conclusion.TheVariants as conclusion
 
--- what the search among the recipes of a job ends with, within the job's budget
+-- the result of the search among the recipes of a job, within the job's budget
 abbrev pub result_for : ResolvedJob → SearchResult
 result_for r = search_result (recipe_land r) r.job.head.budget
 
@@ -44,7 +44,7 @@ matched_evaluations r (Match recipe) = evaluations_of r recipe.items
 matched_evaluations r NoMatch = []
 matched_evaluations r (Floor cost) = []
 
--- the report on what a search ended with: its claim, and the undecided recipes
+-- the report on the result of a search: its claim, and the undecided recipes
 abbrev pub result_report : List ℕ → ResolvedJob → SearchResult → Report
 result_report cert r s = record {
   conclusion = conclusion_of s.claim;

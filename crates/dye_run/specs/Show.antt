@@ -54,7 +54,7 @@ verdicts_from number [] deltas = []
 verdicts_from number (tolerance ∷ rest) [] = []
 verdicts_from number (tolerance ∷ rest) (delta ∷ deltas) = light_verdict base_unit tolerance number delta ∷ verdicts_from (number + 1) rest deltas
 
--- what is shown of a recipe with these differences
+-- the values shown of a recipe with these differences
 abbrev pub values_of : ResolvedJob → List ℕ → List Ends → RecipeValues
 values_of r recipe deltas = record {
   steps = recipe;
@@ -64,11 +64,11 @@ values_of r recipe deltas = record {
   whole = verdict_at base_unit (tolerances r.job.light) deltas;
 }
 
--- the same of a recipe, by its differences at the base scale
+-- the values shown of a recipe, with its differences at the base scale
 abbrev pub recipe_values : ResolvedJob → List ℕ → RecipeValues
 recipe_values r recipe = values_of r recipe (differences_at base_unit r recipe recipe)
 
--- the difference of a recipe under the light of a number
+-- the difference of a recipe under the light with a number
 abbrev pub light_evaluation : ResolvedJob → List ℕ → ℕ → JobLight → WeightTable → Evaluation
 light_evaluation r recipe number light weights = record {
   label = codes "light " ++ decimal number ++ codes " DE";
@@ -76,7 +76,7 @@ light_evaluation r recipe number light weights = record {
   tolerance = Some light.tolerance;
 }
 
--- those under lights with their weights, numbered from `number` on
+-- the differences under lights with their weights, where the lights are numbered from `number` on
 unfoldable pub light_evaluations : ResolvedJob → List ℕ → ℕ → List JobLight → List WeightTable → List Evaluation
 light_evaluations r recipe number [] tables = []
 light_evaluations r recipe number (light ∷ lights) [] = []

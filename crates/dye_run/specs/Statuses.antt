@@ -11,7 +11,7 @@ use Rattle.dye_run.specs.Forms.{Form}
 use Rattle.dye_run.specs.Outcome as outcome
 use Rattle.dye_run.specs.Outcome.{Fault, Outcome, conclusion_status, fault_status, refused, reported, status_of, text_of, written_of}
 
--- what a status may tell of
+-- the kinds of statuses
 pub data Kind : Type 0 where
   report : Kind
   usage : Kind
@@ -21,7 +21,7 @@ pub data Kind : Type 0 where
   out_of_memory : Kind
   nothing : Kind
 
--- 0, 5, 6, 8 and 9 are of a report, 3, 7 and 11 of a refusal, and the others each of one kind
+-- 0, 5, 6, 8 and 9 belong to a report, 3, 7 and 11 to a refusal, and each of the other statuses is of a kind of its own
 abbrev pub kind_of : ℕ → Kind
 kind_of status =
     if (status == 0) || (status == 5) || (status == 6) || (status == 8) || (status == 9) then report
@@ -53,7 +53,7 @@ module _ (form : Option Form) (before after : World) where
     pub fault : IsUnreadable (asking_for form) before.shelf after.shelf name
     pub leaves : Leaves before after (unreadable_text name) None
 
-  -- all due files came, and this is the first fault
+  -- all due files were read, and this is the first fault
   pub record IsRefused (result : ℕ) : Type 0 where
     pub fault : Fault
     pub status : fault_status fault ≡ result
@@ -61,7 +61,7 @@ module _ (form : Option Form) (before after : World) where
     pub leaves : Leaves before after (text_of (refused fault)) None
 
   -- a put failed, and the sink took a prefix of what was to be printed; or the file of the report could not be written, and
-  -- that was to be printed
+  -- a text that says so was to be printed
   pub data IsNotWritten : Type 0 where
     put_failed : (o : Outcome) → Reaches (asking_for form) before.shelf after.shelf o → LeavesPrefix before after (text_of o) (written_of o) → IsNotWritten
     file_failed : (r : Report) (name bytes : List ℕ)
@@ -76,7 +76,7 @@ module _ (form : Option Form) (before after : World) where
     pub has_form : IsSome form
     pub leaves : Leaves before after [] None
 
-  -- what each kind means for the call; a status of no kind is never answered
+  -- what each kind means for the call; a status of no kind is never returned
   abbrev pub Tells : Kind → ℕ → Type 0
   Tells report status = IsReport status
   Tells usage status = IsUsage
@@ -86,16 +86,17 @@ module _ (form : Option Form) (before after : World) where
   Tells out_of_memory status = IsOutOfMemory
   Tells nothing status = ⊥
 
-  -- what a status means, and where words have no form, that they have none
+  -- what a status means, and that words without a form end with 1 or 4
   pub record StatusTells (status : ℕ) : Type 0 where
     pub tells : Tells (kind_of status) status
     pub no_form : form ≡ None → (status ≡ 1) ⊎ (status ≡ 4)
 
   -- the call wrote and printed the whole outcome, or ran out of memory
-  abbrev pub IsSaid : Outcome → ℕ → Type 0
-  IsSaid o status = (status ≡ out_of_memory_status) ⊎ ((status ≡ status_of o) × Leaves before after (text_of o) (written_of o))
+  abbrev pub IsPrinted : Outcome → ℕ → Type 0
+  IsPrinted o status = (status ≡ out_of_memory_status) ⊎ ((status ≡ status_of o) × Leaves before after (text_of o) (written_of o))
 
-  -- Where the files are known and give an outcome, and no count of a due kind rose in the call, the call prints it
+  -- Where the files are known and determine an outcome, and no failure of a due read, of the write or of a put was counted in
+  -- the call, the call prints the outcome
   abbrev pub IsComplete : ℕ → Type 0
   IsComplete status =
       (c : Contents) (o : Outcome) → before.shelf.contents ≡ Some c
@@ -103,10 +104,10 @@ module _ (form : Option Form) (before after : World) where
       → ((n : List ℕ) → IsDue before.shelf.contents (asking_for form) n → Rose (before.shelf.read_faults n) (after.shelf.read_faults n) → ⊥)
       → IfSome (written_of o) (λ file. Rose (before.shelf.write_faults file.0) (after.shelf.write_faults file.0) → ⊥)
       → (Rose before.sink.faults after.sink.faults → ⊥)
-      → IsSaid o status
+      → IsPrinted o status
 
-  -- Where the files are known and give an outcome, and reads of the due names, writes of its file and puts of its text are
-  -- promised to succeed, the call prints it and the sink counts no failure
+  -- Where the files are known and determine an outcome, and reads of the due names, writes of its file and puts of its text are
+  -- promised to succeed, the call prints the outcome and the sink counts no failure
   abbrev pub IsReliable : ℕ → Type 0
   IsReliable status =
       (c : Contents) (o : Outcome) → before.shelf.contents ≡ Some c
@@ -114,4 +115,4 @@ module _ (form : Option Form) (before after : World) where
       → ((n : List ℕ) → IsDue before.shelf.contents (asking_for form) n → IsTrue (before.shelf.reads_promised n))
       → IfSome (written_of o) (λ file. IsTrue (before.shelf.writes_promised file.0 (length file.1)))
       → IsTrue (before.sink.puts_promised (length (text_of o)))
-      → IsSaid o status × (after.sink.faults ≡ before.sink.faults)
+      → IsPrinted o status × (after.sink.faults ≡ before.sink.faults)

@@ -61,9 +61,9 @@ form_view (code.Demo d) = demo d.0.number
 abbrev pub tables_view : Tables → inputs.Tables
 tables_view tables = record { book = tables.book; light = tables.light }
 
--- the bytes that came of a read, or None where there were too many
-abbrev pub came_view : Option (Vec ℕ) → Option (List ℕ)
-came_view came = option_map (λ bytes. bytes.items) came
+-- the bytes that were read from a file, or None where there were too many
+abbrev pub bytes_view : Option (Vec ℕ) → Option (List ℕ)
+bytes_view bytes_read = option_map (λ bytes. bytes.items) bytes_read
 
 -- the curves and the weights of a job that were read
 abbrev pub job_tables_view : JobTables → jobs.JobTables

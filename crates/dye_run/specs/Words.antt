@@ -11,7 +11,7 @@ is_file_word word = nat_le 1 (length word) && nat_le (length word) 255
 abbrev pub is_cert_word : List ℕ → Bool
 is_cert_word word = is_file_word word && ends_with ◌==◌ word (codes ".cert")
 
--- a word that names a job names a file, and does not
+-- a word that names a job names a file, and does not end with `.cert`
 abbrev pub is_job_word : List ℕ → Bool
 is_job_word word = is_file_word word && not (ends_with ◌==◌ word (codes ".cert"))
 
@@ -25,14 +25,14 @@ abbrev pub cert_words : List (List ℕ) → Option CertWords
 cert_words (job ∷ cert ∷ []) = if is_job_word job && is_cert_word cert then Some (record { job = job; cert = cert }) else None
 cert_words words = None
 
--- a number, where it lies in a range
-abbrev pub within : ℕ → ℕ → Option ℕ → Option ℕ
-within low high (Some n) = if nat_le low n && nat_le n high then Some n else None
-within low high None = None
+-- a number, if it is in a range
+abbrev pub in_number_range : ℕ → ℕ → Option ℕ → Option ℕ
+in_number_range low high (Some n) = if nat_le low n && nat_le n high then Some n else None
+in_number_range low high None = None
 
--- the number of a word of one to nine digits, where it lies in a range
+-- the number that a word of one to nine digits spells, if it is in a range
 unfoldable pub number_in : ℕ → ℕ → List ℕ → Option ℕ
-number_in low high word = within low high (whole_number 9 word)
+number_in low high word = in_number_range low high (whole_number 9 word)
 
 -- a column of a curve file, under the light of a weights file
 pub record LitColumn : Type 0 where

@@ -1,4 +1,4 @@
-//! A job with its files, and a certificate.
+//! Reading a job with its files, and a certificate.
 
 ghost use Rattle.std.specs.Prelude.{◌≡◌, ◌≤◌, List, ℕ, All, IfOk, IfSome, Result, length, map, option_map};
 ghost use Rattle.job_file.specs.JobView.{job_view};
@@ -12,11 +12,11 @@ ghost use Rattle.dye_run.specs.Jobs as spec;
 ghost use Rattle.dye_run.specs.Jobs.{asks_cert, asks_cert_tables, cert_tables_from, unless_too_long};
 ghost use Rattle.dye_run.specs.Judging.{Gives, IsInput};
 ghost use Rattle.dye_run.specs.Outcome.{Fault};
-ghost use Rattle.dye_run.specs.Views.{came_view, cert_tables_view};
+ghost use Rattle.dye_run.specs.Views.{bytes_view, cert_tables_view};
 
 use crate::inputs::due;
 use crate::jobs::{
-    CameFiles, JOB_LIMIT, JobTables, job_from, read_job_files, resolved_from, tables_of,
+    FilesRead, JOB_LIMIT, JobTables, job_from, read_job_files, resolved_from, tables_of,
 };
 use crate::stop::Stop;
 use job_file::{BatchRule, Job, Resolved};
@@ -34,7 +34,7 @@ pub(crate) struct CertTables {
     text: Vec<u8>,
 }
 
-/// A job over its files, and the text of a certificate.
+/// A job that is resolved over its files, and the text of a certificate.
 #[derive(Drop)]
 pub(crate) struct WithCert {
     pub resolved: Resolved,
@@ -42,42 +42,44 @@ pub(crate) struct WithCert {
     pub ghost short: { length text.items ≤ 64000000 },
 }
 
-/// The text of a certificate, of which these bytes came, or `None` where it is too long.
-fn text_from<'a>(cert: &'a str, came: Option<Vec<u8>>) -> Result<Vec<u8>, Stop<'a>>
+/// The text of a certificate, from the bytes that were read, or `None` where it is too long.
+fn text_from<'a>(cert: &'a str, bytes_read: Option<Vec<u8>>) -> Result<Vec<u8>, Stop<'a>>
     ensures is { Gives (λ t. t.items) result
-        (unless_too_long cert.now (option_map (λ b. b.items) came)) }
-    ensures same { IfOk result (λ t. IfSome came (λ b. t ≡ b)) }
+        (unless_too_long cert.now (option_map (λ b. b.items) bytes_read)) }
+    ensures same { IfOk result (λ t. IfSome bytes_read (λ b. t ≡ b)) }
 {
-    match came {
+    match bytes_read {
         Some(bytes) => Ok(bytes),
         None => Err(Stop::Refused(Refusal::TooLong(cert))),
     }
 }
 
-/// The tables of a job and the text of a certificate, from what came of their files.
+/// The tables of a job and the text of a certificate, from the bytes that were read.
 #[tactic(auto, unfolding(crate::specs::Jobs::cert_tables_from))]
 fn cert_tables_of<'n>(
     alloc: Global,
     job: &'n Job,
-    came: &CameFiles,
+    bytes_read: &FilesRead,
     cert: &'n str,
     text: Option<Vec<u8>>,
 ) -> Result<CertTables, Stop<'n>>
-    requires fit { FitsFiles (length job.now.light.items) came.now }
+    requires fit { FitsFiles (length job.now.light.items) bytes_read.now }
     requires short { IfSome text (λ t. length t.items ≤ 64000000) }
     ensures is { Gives cert_tables_view result (cert_tables_from (job_view job.now) cert.now
-        (came_view came.now.curves) (map came_view came.now.weights.items) (came_view text)) }
+        (bytes_view bytes_read.now.curves) (map bytes_view bytes_read.now.weights.items)
+        (bytes_view text)) }
     ensures count { IfOk result (λ t. length t.tables.weights.items
         ≡ length job.now.light.items) }
     ensures held { IfOk result (λ t. All IsWeightTable t.tables.weights.items) }
     ensures short { IfOk result (λ t. length t.text.items ≤ 64000000) }
 {
-    let tables = tables_of(alloc, job, came)?;
+    let tables = tables_of(alloc, job, bytes_read)?;
     let text = text_from(cert, text)?;
     Ok(CertTables { tables, text })
 }
 
-/// Reads the files of a job and then a certificate, which are all due, and their tables.
+/// Reads the files that a job names and then a certificate, which are all due, and makes the job's
+/// tables.
 fn read_cert_tables<'n, H: Shelf>(
     alloc: Global,
     shelf: &mut H,
@@ -95,12 +97,12 @@ fn read_cert_tables<'n, H: Shelf>(
     ensures held { IfOk result (λ t. All IsWeightTable t.tables.weights.items) }
     ensures short { IfOk result (λ t. length t.text.items ≤ 64000000) }
 {
-    let came = read_job_files(alloc, shelf, job)?;
+    let bytes_read = read_job_files(alloc, shelf, job)?;
     let text = due(alloc, shelf, cert, CERT_LIMIT)?;
-    cert_tables_of(alloc, job, &came, cert, text)
+    cert_tables_of(alloc, job, &bytes_read, cert, text)
 }
 
-/// What a job comes to over its tables, with the text of a certificate.
+/// Resolves a job over its tables, and keeps the text of a certificate.
 fn with_cert<'a>(
     alloc: Global,
     name: &'a str,
@@ -119,7 +121,7 @@ fn with_cert<'a>(
     Ok(WithCert { resolved, text })
 }
 
-/// Reads a job, its tables and a certificate, which are all due, and what the job comes to.
+/// Reads a job, its tables and a certificate, which are all due, and resolves the job.
 pub(crate) fn read_with_cert<'a, H: Shelf>(
     alloc: Global,
     shelf: &mut H,
@@ -135,8 +137,8 @@ pub(crate) fn read_with_cert<'a, H: Shelf>(
         ReadsDue (asks_cert rule name.now cert.now judged)
         (H.view shelf.old) (H.view shelf.new) }
 {
-    let came = due(alloc, shelf, name, JOB_LIMIT)?;
-    let job = job_from(alloc, rule, name, came.as_deref())?;
+    let bytes_read = due(alloc, shelf, name, JOB_LIMIT)?;
+    let job = job_from(alloc, rule, name, bytes_read.as_deref())?;
     let tables = match read_cert_tables(alloc, shelf, &job, cert) {
         Ok(tables) => tables,
         Err(stop) => return Err(stop.owned(alloc)),

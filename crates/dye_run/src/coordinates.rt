@@ -17,12 +17,12 @@ use shelf_io::Shelf;
 use spectral_tables::{Curve, Weights};
 use std::alloc::{AllocError, Global};
 
-/// Which coordinates of a curve under a light.
+/// A choice of the coordinates to report of a curve under a light.
 pub(crate) trait Coordinates: Copy {
-    // each with its label
+    // the chosen coordinates, each with its label
     ghost evaluations: { Self → WeightTable → List ℕ → List Evaluation };
 
-    /// A line for each.
+    /// A line for each of them.
     fn text(self, alloc: Global, light: &Weights, curve: &Curve) -> Result<Vec<u8>, AllocError>
         ensures { IfOk result (λ text.
             text.items ≡ lines_of (evaluations self light.now curve.now)) };

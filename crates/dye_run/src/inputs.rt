@@ -1,4 +1,4 @@
-//! The due files of a command, by their shape.
+//! Reading the due files of a command: those that its words, or the job that they name, require.
 
 ghost use Rattle.std.specs.Prelude.{◌≡◌, ◌≤◌, ◌+◌, length, option_map, IfErr, IfOk, Result};
 ghost use Rattle.std.specs.Option.{ForSome};
@@ -6,7 +6,7 @@ ghost use Rattle.shelf_io.specs.Changes.{HandsOut, OnlyReads};
 ghost use Rattle.spectral_tables.specs.CurveBook.{Book};
 ghost use Rattle.dye_run.specs.Answers.{Report};
 ghost use Rattle.dye_run.specs.Asking.{ReadsDue};
-ghost use Rattle.dye_run.specs.Due.{Comes};
+ghost use Rattle.dye_run.specs.Due.{CanBeRead};
 ghost use Rattle.dye_run.specs.Inputs as spec;
 ghost use Rattle.dye_run.specs.Inputs.{asks_book, asks_tables};
 ghost use Rattle.dye_run.specs.Judging.{Gives, IsInput, StopsAt};
@@ -27,8 +27,9 @@ pub(crate) fn due<'a, H: Shelf>(
     name: &'a str,
     limit: u64,
 ) -> Result<Option<Vec<u8>>, Stop<'a>>
-    ensures comes { IfOk result (λ came. Comes (H.view shelf.old).contents name.now limit
-        (option_map (λ bytes. bytes.items) came)) }
+    ensures from_files { IfOk result (λ bytes_read.
+        CanBeRead (H.view shelf.old).contents name.now limit
+        (option_map (λ bytes. bytes.items) bytes_read)) }
     ensures stopped { IfErr result (StopsAt name.now (H.view shelf.old) (H.view shelf.new)) }
     ensures only { OnlyReads (λ n. n ≡ name.now) (H.view shelf.old) (H.view shelf.new) }
     ensures handed { HandsOut name.now (limit + 1) (H.view shelf.old) (H.view shelf.new) }
@@ -41,7 +42,7 @@ pub(crate) fn due<'a, H: Shelf>(
     }
 }
 
-/// Reads a file of curves, which is due, and its curves.
+/// Reads a curve file, which is due, and makes its curves.
 pub(crate) fn read_book<'a, H: Shelf>(
     alloc: Global,
     shelf: &mut H,
@@ -53,36 +54,37 @@ pub(crate) fn read_book<'a, H: Shelf>(
     ensures reads { (judged : Book → Result Report Fault) →
         ReadsDue (asks_book curves.now judged) (H.view shelf.old) (H.view shelf.new) }
 {
-    let came = due(alloc, shelf, curves, TABLE_LIMIT)?;
-    table_from(alloc, curves, came.as_deref())
+    let bytes_read = due(alloc, shelf, curves, TABLE_LIMIT)?;
+    table_from(alloc, curves, bytes_read.as_deref())
 }
 
-// What came of a file of curves and of one of weights.
+// The bytes read from a curve file and from a weights file.
 #[derive(Drop)]
 struct Both {
     curves: Option<Vec<u8>>,
     weights: Option<Vec<u8>>,
 }
 
-// The tables of both files, judged when both have come.
+// The tables of both files, made when both have been read.
 #[tactic(auto, unfolding(crate::specs::Inputs::tables_from))]
 fn tables_from<'a>(
     alloc: Global,
     curves: &'a str,
     weights: &'a str,
-    came: &Both,
+    bytes_read: &Both,
 ) -> Result<Tables, Stop<'a>>
-    requires curves { ForSome came.now.curves (λ bytes. length bytes.items ≤ 1000000) }
-    requires weights { ForSome came.now.weights (λ bytes. length bytes.items ≤ 1000000) }
+    requires curves { ForSome bytes_read.now.curves (λ bytes. length bytes.items ≤ 1000000) }
+    requires weights { ForSome bytes_read.now.weights (λ bytes. length bytes.items ≤ 1000000) }
     ensures { Gives tables_view result (spec.tables_from curves.now weights.now
-        (option_map (λ b. b.items) came.now.curves) (option_map (λ b. b.items) came.now.weights)) }
+        (option_map (λ b. b.items) bytes_read.now.curves)
+        (option_map (λ b. b.items) bytes_read.now.weights)) }
 {
-    let book = table_from(alloc, curves, came.curves.as_deref())?;
-    let light = table_from(alloc, weights, came.weights.as_deref())?;
+    let book = table_from(alloc, curves, bytes_read.curves.as_deref())?;
+    let light = table_from(alloc, weights, bytes_read.weights.as_deref())?;
     Ok(Tables { book, light })
 }
 
-/// Reads a file of curves and then one of weights, which are both due, and their tables.
+/// Reads a curve file and then a weights file, which are both due, and makes their tables.
 pub(crate) fn read_tables<'a, H: Shelf>(
     alloc: Global,
     shelf: &mut H,
@@ -97,9 +99,9 @@ pub(crate) fn read_tables<'a, H: Shelf>(
 {
     let first = due(alloc, shelf, curves, TABLE_LIMIT)?;
     let second = due(alloc, shelf, weights, TABLE_LIMIT)?;
-    let came = Both {
+    let bytes_read = Both {
         curves: first,
         weights: second,
     };
-    tables_from(alloc, curves, weights, &came)
+    tables_from(alloc, curves, weights, &bytes_read)
 }

@@ -1,4 +1,4 @@
-//! What every command does: it reads its due files, and then reports on what they hold.
+//! What every command does: it reads its due files, and then reports on their contents.
 
 ghost use Rattle.std.specs.Prelude.{Result};
 ghost use Rattle.dye_run.specs.Answers as spec;
@@ -11,15 +11,15 @@ use crate::stop::Stop;
 use shelf_io::Shelf;
 use std::alloc::Global;
 
-/// The words of a command: the files that they ask for, and what they report of them.
+/// The words of a command: which files they ask for, and what they report about those files.
 pub(crate) trait Inquiry<'a>: Copy {
-    /// What is made of its due files.
+    /// The data that its due files are made into.
     type Input: Drop;
 
-    // what the words ask for
+    // the reads that the words ask for, and the outcome
     ghost asking: { Self → Asking };
 
-    // what is made of an input
+    // the report on an input, or the fault that refuses it
     ghost judged: { Self → Self.Input → Result spec.Report Fault };
 
     /// Reads the due files.
@@ -28,7 +28,7 @@ pub(crate) trait Inquiry<'a>: Copy {
             (H.view shelf.old) (H.view shelf.new) result }
         ensures reads { ReadsDue (asking self) (H.view shelf.old) (H.view shelf.new) };
 
-    /// Reports on what they hold.
+    /// Reports on their contents.
     fn report(self, alloc: Global, input: &Self::Input) -> Result<Report<'a>, Stop<'a>>
         ensures { Reports result (judged self input.now) };
 }

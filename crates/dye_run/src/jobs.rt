@@ -1,4 +1,4 @@
-//! A job with its files: its curves, and the weights of its lights.
+//! Reading a job with its files: its curves, and the weights of its lights.
 
 ghost use Rattle.std.specs.Prelude.{◌≡◌, ◌≤◌, ℕ, List, [], All, IfErr, IfOk, IfSome, Option, Result, length, map, option_map};
 ghost use Rattle.std.specs.Option.{ForSome};
@@ -14,7 +14,7 @@ ghost use Rattle.dye_run.specs.Jobs as spec;
 ghost use Rattle.dye_run.specs.Jobs.{asks_each, asks_job, asks_job_files, asks_job_tables, job_tables_from, resolved_from, weights_after};
 ghost use Rattle.dye_run.specs.Judging.{Gives, GoesOn, IsInput, StopsHaving};
 ghost use Rattle.dye_run.specs.Outcome.{Fault};
-ghost use Rattle.dye_run.specs.Views.{came_view, job_tables_view};
+ghost use Rattle.dye_run.specs.Views.{bytes_view, job_tables_view};
 
 use crate::inputs::due;
 use crate::stop::Stop;
@@ -35,18 +35,18 @@ pub(crate) struct JobTables {
     pub weights: Vec<Weights>,
 }
 
-/// The job of a file, of which these bytes came, or `None` where it is too long.
+/// The job of a file, from the bytes that were read, or `None` where it is too long.
 #[tactic(auto, unfolding(crate::specs::Jobs::job_from))]
 pub(crate) fn job_from<'a>(
     alloc: Global,
     rule: BatchRule,
     name: &'a str,
-    came: Option<&[u8]>,
+    bytes_read: Option<&[u8]>,
 ) -> Result<Job, Stop<'a>>
     ensures { Gives job_view result
-        (spec.job_from rule name.now (option_map (λ b. b.now) came.entry)) }
+        (spec.job_from rule name.now (option_map (λ b. b.now) bytes_read.entry)) }
 {
-    let Some(bytes) = came else {
+    let Some(bytes) = bytes_read else {
         return Err(Stop::Refused(Refusal::TooLong(name)));
     };
     match read_job(alloc, bytes, rule) {
@@ -56,55 +56,56 @@ pub(crate) fn job_from<'a>(
     }
 }
 
-/// Reads the files of weights of lights, which are due one after the other.
+/// Reads the weights files of lights, which are due one after the other.
 fn read_lights<'n, H: Shelf>(
     alloc: Global,
     shelf: &mut H,
     lights: &'n [JobLight],
 ) -> Result<Vec<Option<Vec<u8>>>, Stop<'n>>
-    ensures came { (next : List (Option (List ℕ)) → Asking) → IfOk result (λ came.
-        GoesOn (asks_each (map (λ l. l.weights) lights.now) next) (next (map came_view came.items))
+    ensures bytes_read { (next : List (Option (List ℕ)) → Asking) → IfOk result (λ bytes_read.
+        GoesOn (asks_each (map (λ l. l.weights) lights.now) next)
+        (next (map bytes_view bytes_read.items))
         (H.view shelf.old) (H.view shelf.new)) }
-    ensures count { IfOk result (λ came. length came.items ≡ length lights.now) }
-    ensures short { IfOk result (λ came.
-        All (λ c. IfSome c (λ bytes. length bytes.items ≤ 1000000)) came.items) }
+    ensures count { IfOk result (λ bytes_read. length bytes_read.items ≡ length lights.now) }
+    ensures short { IfOk result (λ bytes_read.
+        All (λ c. IfSome c (λ bytes. length bytes.items ≤ 1000000)) bytes_read.items) }
     ensures stopped { (next : List (Option (List ℕ)) → Asking) → IfErr result (λ why.
         StopsHaving (asks_each (map (λ l. l.weights) lights.now) next)
         (H.view shelf.old) (H.view shelf.new) why) }
 {
-    let mut came = Vec::new(alloc);
+    let mut bytes_read = Vec::new(alloc);
     for light in lights {
         let bytes = due(alloc, shelf, light.weights.as_str(), TABLE_LIMIT)?;
-        came.push(bytes)?;
+        bytes_read.push(bytes)?;
     }
-    Ok(came)
+    Ok(bytes_read)
 }
 
-/// The weights of lights, from what came of their files.
+/// The weights of lights, from the bytes read from their files.
 fn weights_of<'n>(
     alloc: Global,
     lights: &'n [JobLight],
-    came: &[Option<Vec<u8>>],
+    bytes_read: &[Option<Vec<u8>>],
 ) -> Result<Vec<Weights>, Stop<'n>>
-    requires count { length came.now ≡ length lights.now }
-    requires short { All (λ c. IfSome c (λ bytes. length bytes.items ≤ 1000000)) came.now }
+    requires count { length bytes_read.now ≡ length lights.now }
+    requires short { All (λ c. IfSome c (λ bytes. length bytes.items ≤ 1000000)) bytes_read.now }
     ensures is { Gives (λ w. w.items) result
-        (weights_after [] (map (λ l. l.weights) lights.now) (map came_view came.now)) }
+        (weights_after [] (map (λ l. l.weights) lights.now) (map bytes_view bytes_read.now)) }
     ensures count { IfOk result (λ w. length w.items ≡ length lights.now) }
     ensures held { IfOk result (λ w. All IsWeightTable w.items) }
 {
     let mut weights = Vec::new(alloc);
     for (i, light) in lights.iter().enumerate() {
-        let table: Weights = table_from(alloc, light.weights.as_str(), came[i].as_deref())?;
-        let _ = table.waves(); // called for its contract alone: what weights keep
+        let table: Weights = table_from(alloc, light.weights.as_str(), bytes_read[i].as_deref())?;
+        let _ = table.waves(); // called only for its contract: the invariant of weights
         weights.push(table)?;
     }
     Ok(weights)
 }
 
-/// What came of the files of a job: its curves, and the weights of its lights in their order.
+/// The bytes read from the files of a job: its curves, and the weights of its lights in order.
 #[derive(Drop)]
-pub(crate) struct CameFiles {
+pub(crate) struct FilesRead {
     pub curves: Option<Vec<u8>>,
     pub weights: Vec<Option<Vec<u8>>>,
 }
@@ -114,10 +115,10 @@ pub(crate) fn read_job_files<'n, H: Shelf>(
     alloc: Global,
     shelf: &mut H,
     job: &'n Job,
-) -> Result<CameFiles, Stop<'n>>
-    ensures came { (next : Option (List ℕ) → List (Option (List ℕ)) → Asking) → IfOk result (λ c.
-        GoesOn (asks_job_files (job_view job.now) next)
-        (next (came_view c.curves) (map came_view c.weights.items))
+) -> Result<FilesRead, Stop<'n>>
+    ensures bytes_read { (next : Option (List ℕ) → List (Option (List ℕ)) → Asking) →
+        IfOk result (λ c. GoesOn (asks_job_files (job_view job.now) next)
+        (next (bytes_view c.curves) (map bytes_view c.weights.items))
         (H.view shelf.old) (H.view shelf.new)) }
     ensures fit { IfOk result (FitsFiles (length job.now.light.items)) }
     ensures stopped { (next : Option (List ℕ) → List (Option (List ℕ)) → Asking) →
@@ -126,29 +127,29 @@ pub(crate) fn read_job_files<'n, H: Shelf>(
 {
     let curves = due(alloc, shelf, job.curves.as_str(), TABLE_LIMIT)?;
     let weights = read_lights(alloc, shelf, job.light.as_slice())?;
-    Ok(CameFiles { curves, weights })
+    Ok(FilesRead { curves, weights })
 }
 
-/// The tables of a job, from what came of its files.
+/// The tables of a job, from the bytes read from its files.
 #[tactic(auto, unfolding(crate::specs::Jobs::job_tables_from))]
 pub(crate) fn tables_of<'n>(
     alloc: Global,
     job: &'n Job,
-    came: &CameFiles,
+    bytes_read: &FilesRead,
 ) -> Result<JobTables, Stop<'n>>
-    requires { FitsFiles (length job.now.light.items) came.now }
+    requires { FitsFiles (length job.now.light.items) bytes_read.now }
     ensures is { Gives job_tables_view result (job_tables_from (job_view job.now)
-        (came_view came.now.curves) (map came_view came.now.weights.items)) }
+        (bytes_view bytes_read.now.curves) (map bytes_view bytes_read.now.weights.items)) }
     ensures count { IfOk result (λ t. length t.weights.items ≡ length job.now.light.items) }
     ensures held { IfOk result (λ t. All IsWeightTable t.weights.items) }
 {
-    let book = table_from(alloc, job.curves.as_str(), came.curves.as_deref())?;
-    let weights = weights_of(alloc, job.light.as_slice(), came.weights.as_slice())?;
+    let book = table_from(alloc, job.curves.as_str(), bytes_read.curves.as_deref())?;
+    let weights = weights_of(alloc, job.light.as_slice(), bytes_read.weights.as_slice())?;
     Ok(JobTables { book, weights })
 }
 
-/// Reads the curves of a job and then the weights of its lights, which are all due, and their
-/// tables.
+/// Reads the curves of a job and then the weights of its lights, which are all due, and makes the
+/// job's tables.
 fn read_job_tables<'n, H: Shelf>(
     alloc: Global,
     shelf: &mut H,
@@ -163,11 +164,11 @@ fn read_job_tables<'n, H: Shelf>(
     ensures count { IfOk result (λ t. length t.weights.items ≡ length job.now.light.items) }
     ensures held { IfOk result (λ t. All IsWeightTable t.weights.items) }
 {
-    let came = read_job_files(alloc, shelf, job)?;
-    tables_of(alloc, job, &came)
+    let bytes_read = read_job_files(alloc, shelf, job)?;
+    tables_of(alloc, job, &bytes_read)
 }
 
-/// What a job comes to over its tables.
+/// Resolves a job over its tables.
 pub(crate) fn resolved_from<'a>(
     alloc: Global,
     name: &'a str,
@@ -180,7 +181,7 @@ pub(crate) fn resolved_from<'a>(
         (resolved_from name.now (job_view job) (job_tables_view tables)) }
 {
     let JobTables { book, weights } = tables;
-    let _ = book.find(""); // called for its contract alone: what a book keeps
+    let _ = book.find(""); // called only for its contract: the invariant of a book
     match resolve(alloc, job, &book, weights) {
         Ok(resolved) => Ok(resolved),
         Err(JobError::Fault(fault)) => Err(Stop::Refused(Refusal::Job(name, fault))),
@@ -188,7 +189,7 @@ pub(crate) fn resolved_from<'a>(
     }
 }
 
-/// Reads a job and its tables, which are due, and what the job comes to.
+/// Reads a job and its tables, which are due, and resolves the job.
 pub(crate) fn read_resolved<'a, H: Shelf>(
     alloc: Global,
     shelf: &mut H,
@@ -201,8 +202,8 @@ pub(crate) fn read_resolved<'a, H: Shelf>(
     ensures reads { (judged : ResolvedJob → Result Report Fault) →
         ReadsDue (asks_job rule name.now judged) (H.view shelf.old) (H.view shelf.new) }
 {
-    let came = due(alloc, shelf, name, JOB_LIMIT)?;
-    let job = job_from(alloc, rule, name, came.as_deref())?;
+    let bytes_read = due(alloc, shelf, name, JOB_LIMIT)?;
+    let job = job_from(alloc, rule, name, bytes_read.as_deref())?;
     let tables = match read_job_tables(alloc, shelf, &job) {
         Ok(tables) => tables,
         Err(stop) => return Err(stop.owned(alloc)),

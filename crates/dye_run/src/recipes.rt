@@ -32,7 +32,7 @@ fn verdicts_of(lights: &[JobLight], deltas: &[Iv<Base>]) -> ArrayVec<Verdict, 4>
     verdicts
 }
 
-/// What is shown of a recipe.
+/// The values that a report shows of a recipe.
 pub(crate) fn shown_of(land: &RecipeLand, steps: Steps) -> Shown
     requires { IsRecipe land.now.grid steps.items }
     ensures { shown_view result ≡ recipe_values land.now steps.items }
@@ -56,6 +56,6 @@ pub(crate) fn budget_of(land: &RecipeLand) -> u32
     ensures some { 1 ≤ result }
     ensures searchable { IsSearchable land.now }
 {
-    let _ = land.top(); // called for its contract alone: the recipes are a lawful landscape
+    let _ = land.top(); // called only for its contract: the recipes are a lawful landscape
     land.job().budget
 }

@@ -17,11 +17,11 @@ pub(crate) enum Conclusion {
     Found,
     /// There is no recipe to find.
     NoneFound,
-    /// The budget of boxes ended first.
+    /// The budget of boxes was used up first.
     BudgetEnded,
 }
 
-/// The status where a put failed.
+/// The status where a put into the sink failed, or a file could not be written.
 pub(crate) const NOT_WRITTEN: u8 = 4;
 
 /// The status where memory ran out.

@@ -11,7 +11,7 @@ use shade_report::Refusal;
 use spectral_tables::TableFault;
 use std::alloc::{AllocError, AllocFailed, Global};
 
-/// A refusal that owns its texts, for the names that a job gives.
+/// A refusal that owns its texts, for file names that were read from a job.
 #[derive(Drop)]
 pub(crate) enum OwnedRefusal {
     Usage,
@@ -97,7 +97,7 @@ impl Stop<'_> {
         }
     }
 
-    /// The same, where names do not outlive the job that they stand in.
+    /// The same, with copies of the names, which need not outlive the job that they are part of.
     pub(crate) fn owned<'a>(self, alloc: Global) -> Stop<'a>
         ensures { (stop_outcome result ≡ stop_outcome self.entry) ⊎ (stop_outcome result ≡ None) }
     {

@@ -24,10 +24,10 @@ pub(crate) struct Tables {
 
 /// A table that is read from the bytes of one file.
 pub(crate) trait Table: Drop {
-    // what the bytes have
+    // the table that the bytes spell, or their first fault
     ghost table_of: { List ℕ → Result Self TableFault };
 
-    /// Reads it.
+    /// Reads the table.
     fn read(alloc: Global, bytes: &[u8]) -> Result<Self, TableError>
         requires { length bytes.now ≤ 1000000 }
         ensures { GivesTable (λ t. t) result (table_of bytes.now) };
@@ -49,18 +49,18 @@ impl Table for Weights {
     }
 }
 
-/// The table of a file, of which these bytes came, or `None` where it is too long.
+/// The table of a file, from the bytes that were read, or `None` where it is too long.
 #[tactic(auto, unfolding(crate::specs::Inputs::table_from))]
 pub(crate) fn table_from<'a, T: Table>(
     alloc: Global,
     name: &'a str,
-    came: Option<&[u8]>,
+    bytes_read: Option<&[u8]>,
 ) -> Result<T, Stop<'a>>
-    requires { ForSome came (λ bytes. length bytes.now ≤ 1000000) }
+    requires { ForSome bytes_read (λ bytes. length bytes.now ≤ 1000000) }
     ensures { Gives (λ t. t) result
-        (table_from T.table_of name.now (option_map (λ b. b.now) came.entry)) }
+        (table_from T.table_of name.now (option_map (λ b. b.now) bytes_read.entry)) }
 {
-    let Some(bytes) = came else {
+    let Some(bytes) = bytes_read else {
         return Err(Stop::Refused(Refusal::TooLong(name)));
     };
     match T::read(alloc, bytes) {

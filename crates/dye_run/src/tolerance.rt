@@ -1,6 +1,6 @@
 ghost use Rattle.std.specs.Prelude.{◌≤◌};
 
-/// A tolerance in thousandths, of at most 100.
+/// A tolerance of at most 100, in thousandths.
 #[derive(Clone, Copy)]
 pub(crate) struct Tolerance {
     pub thousandths: u32,

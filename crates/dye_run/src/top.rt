@@ -18,7 +18,7 @@ use shade_report::{Refusal, put_refusal};
 use shelf_io::{Failed, Shelf, Sink};
 use std::alloc::Global;
 
-// Judges what the words ask for.
+// Reads what the words ask for, and makes the report.
 fn answer<'a, H: Shelf>(
     alloc: Global,
     words: &'a [String],
@@ -36,7 +36,7 @@ fn answer<'a, H: Shelf>(
     judge(alloc, shelf, command)
 }
 
-// The status of a text that was put.
+// The status after a put: the given one, or that of a failed put.
 fn status_after(put: Result<(), Failed>, status: u8) -> u8
     ensures { result ≡ (if is_err put then not_written_status else status) }
 {
@@ -46,7 +46,7 @@ fn status_after(put: Result<(), Failed>, status: u8) -> u8
     }
 }
 
-// Prints a text, and answers its status.
+// Prints a text, and returns its status.
 fn print<O: Sink>(text: &[u8], status: u8, out: &mut O) -> u8
     ensures { Prints text.now status (O.view out.old) (O.view out.new) result }
 {
@@ -54,9 +54,10 @@ fn print<O: Sink>(text: &[u8], status: u8, out: &mut O) -> u8
     status_after(put, status)
 }
 
-// Prints a refusal, and answers its status. It takes no memory.
+// Prints a refusal, and returns its status. It allocates no memory.
 fn refuse<O: Sink>(refusal: &Refusal, out: &mut O) -> u8
-    ensures { Prints (text_of (refusal_outcome refusal.now)) (status_of (refusal_outcome refusal.now))
+    ensures { Prints (text_of (refusal_outcome refusal.now))
+        (status_of (refusal_outcome refusal.now))
         (O.view out.old) (O.view out.new) result }
 {
     let put = put_refusal(out, refusal);
@@ -64,7 +65,7 @@ fn refuse<O: Sink>(refusal: &Refusal, out: &mut O) -> u8
 }
 
 // Writes the file of a report, if it has one, and prints the report, or that the file could not be
-// written. It takes no memory.
+// written. It allocates no memory.
 fn deliver<H: Shelf, O: Sink>(report: &Report, shelf: &mut H, out: &mut O) -> u8
     ensures { Delivers (file_view report.now.written) report.now.text.items
         (conclusion_status report.now.conclusion)
@@ -81,7 +82,7 @@ fn deliver<H: Shelf, O: Sink>(report: &Report, shelf: &mut H, out: &mut O) -> u8
     }
 }
 
-// Judges what the words ask for, writes its file, and prints the report or the refusal.
+// Makes the report that the words ask for, writes its file, and prints the report or the refusal.
 fn speak<H: Shelf, O: Sink>(alloc: Global, words: &[String], shelf: &mut H, out: &mut O) -> u8
     ensures ended { Ended (form_of (map string_bytes words.now))
         (world (H.view shelf.old) (O.view out.old))
@@ -99,10 +100,10 @@ fn speak<H: Shelf, O: Sink>(alloc: Global, words: &[String], shelf: &mut H, out:
 }
 
 /// All that the program does: it reads the words of its command line, reads the due files from the
-/// shelf, writes the certificate where there is one, puts the text into the sink, and answers the
+/// shelf, writes the certificate where there is one, puts the text into the sink, and returns the
 /// status.
 pub fn run<H: Shelf, O: Sink>(alloc: Global, words: &[String], shelf: &mut H, out: &mut O) -> u8
-    // How the call ended, and what its status tells of that.
+    // How the call ended, and what its status means.
     ensures ended { Ended (form_of (map string_bytes words.now))
         (world (H.view shelf.old) (O.view out.old))
         (world (H.view shelf.new) (O.view out.new)) result }
@@ -110,7 +111,7 @@ pub fn run<H: Shelf, O: Sink>(alloc: Global, words: &[String], shelf: &mut H, ou
         (world (H.view shelf.old) (O.view out.old))
         (world (H.view shelf.new) (O.view out.new)) result }
 
-    // What can be answered is answered.
+    // Where nothing fails, the outcome is printed.
     ensures complete { IsComplete (form_of (map string_bytes words.now))
         (world (H.view shelf.old) (O.view out.old))
         (world (H.view shelf.new) (O.view out.new)) result }
@@ -118,12 +119,12 @@ pub fn run<H: Shelf, O: Sink>(alloc: Global, words: &[String], shelf: &mut H, ou
         (world (H.view shelf.old) (O.view out.old))
         (world (H.view shelf.new) (O.view out.new)) result }
 
-    // What it says of the recipes of a job.
+    // What its status means for the recipes of a job.
     ensures recipes { SaysOfRecipes (form_of (map string_bytes words.now))
         (world (H.view shelf.old) (O.view out.old))
         (world (H.view shelf.new) (O.view out.new)) result }
 
-    // What does not change.
+    // What the call may change.
     ensures changes { Changes (form_of (map string_bytes words.now))
         (world (H.view shelf.old) (O.view out.old)) (world (H.view shelf.new) (O.view out.new)) }
 {

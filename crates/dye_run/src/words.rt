@@ -35,7 +35,7 @@ pub(crate) fn names_cert(word: &str) -> bool
     names_file(word) && ends_as_certificate(word.as_bytes())
 }
 
-/// The number of a word of one to nine digits, where it lies in a range.
+/// The number that a word of one to nine digits spells, if it is in a range.
 #[tactic(auto, unfolding(crate::specs::Words::number_in))]
 pub(crate) fn number_in(low: u32, high: u32, word: &str) -> Option<u32>
     ensures is { result ≡ number_in low high word.now }

@@ -41,7 +41,7 @@ fn cert_from<'a>(alloc: Global, land: &RecipeLand, text: &[u8]) -> Result<Cert, 
     ensures { Gives content result
         (cert_from (length (recipe_land land.now).top.lo) text.now) }
 {
-    let _ = land.top(); // called for its contract alone: there are 1 to 12 dyes
+    let _ = land.top(); // called only for its contract: there are 1 to 12 dyes
     match read_cert(alloc, text, land.dims()) {
         Ok(cert) => Ok(cert),
         Err(CertError::Fault(fault)) => Err(Stop::Refused(Refusal::CertGrammar(fault))),
@@ -70,8 +70,14 @@ impl<'a> Inquiry<'a> for Check<'a> {
 
     fn read<H: Shelf>(self, alloc: Global, shelf: &mut H) -> Result<CertInput, Stop<'a>> {
         let Check(words) = self;
-        let came = read_with_cert(alloc, shelf, BatchRule::Either, words.job, words.cert.text)?;
-        let WithCert { resolved, text } = came;
+        let inputs_read = read_with_cert(
+            alloc,
+            shelf,
+            BatchRule::Either,
+            words.job,
+            words.cert.text,
+        )?;
+        let WithCert { resolved, text } = inputs_read;
         let land = RecipeLand::of_job(alloc, resolved)?;
         Ok(CertInput { land, text })
     }
@@ -80,7 +86,7 @@ impl<'a> Inquiry<'a> for Check<'a> {
     fn report(self, alloc: Global, input: &CertInput) -> Result<Report<'a>, Stop<'a>> {
         let cert = cert_from(alloc, &input.land, input.text.as_slice())?;
         let valid = valid_from(alloc, &input.land, cert)?;
-        let _ = budget_of(&input.land); // for its contract alone: they can be searched
+        let _ = budget_of(&input.land); // called only for its contract: they can be searched
         let mut text = Vec::new(alloc);
         text.extend_from_slice(accepted_text(&valid.claim).as_bytes())?;
         Ok(plain_report(text))

@@ -8,12 +8,12 @@ ghost use Rattle.dye_run.specs.Demo.{demo_job, demo_report, demo_words, matched_
 ghost use Rattle.dye_run.specs.Forms as form;
 ghost use Rattle.dye_run.specs.Judging.{stop_outcome};
 ghost use Rattle.dye_run.specs.Search.{claimed_recipe};
-ghost use Rattle.dye_run.specs.Views.{came_view};
+ghost use Rattle.dye_run.specs.Views.{bytes_view};
 
 use crate::commands::check::valid_from;
 use crate::commands::search::{conclusion_of, search_land};
 use crate::inquiry::Inquiry;
-use crate::jobs::{CameFiles, job_from, resolved_from, tables_of};
+use crate::jobs::{FilesRead, job_from, resolved_from, tables_of};
 use crate::report::Report;
 use crate::seed::Seed;
 use crate::stop::Stop;
@@ -28,7 +28,7 @@ use shade_report::demo_text;
 use shelf_io::Shelf;
 use std::alloc::{AllocError, Global};
 
-/// The name that a generated job would be refused under. None is refused.
+/// The name that the refusal of a generated job would print. None is ever refused.
 const NAME: &str = "demo";
 
 /// NUMBER.
@@ -55,10 +55,10 @@ fn copy_of(alloc: Global, bytes: &Bytes) -> Result<Vec<u8>, AllocError>
     Ok(Vec::from_slice(alloc, bytes.as_slice())?)
 }
 
-/// The tables of a generated job, as if they had come from files.
-fn came_files(alloc: Global, texts: &Texts) -> Result<CameFiles, AllocError>
-    ensures curves { IfOk result (λ c. came_view c.curves ≡ Some texts.now.curves) }
-    ensures weights { IfOk result (λ c. map came_view c.weights.items
+/// The table files of a generated job, as if they had been read.
+fn generated_files(alloc: Global, texts: &Texts) -> Result<FilesRead, AllocError>
+    ensures curves { IfOk result (λ c. bytes_view c.curves ≡ Some texts.now.curves) }
+    ensures weights { IfOk result (λ c. map bytes_view c.weights.items
         ≡ Some texts.now.first ∷ Some texts.now.second ∷ []) }
 {
     let curves = copy_of(alloc, &texts.curves)?;
@@ -67,21 +67,21 @@ fn came_files(alloc: Global, texts: &Texts) -> Result<CameFiles, AllocError>
     let mut weights = Vec::new(alloc);
     weights.push(Some(first))?;
     weights.push(Some(second))?;
-    Ok(CameFiles {
+    Ok(FilesRead {
         curves: Some(curves),
         weights,
     })
 }
 
-/// The generated job of a number, over its tables.
+/// The generated job with a number, resolved over its tables.
 fn generated<'a>(alloc: Global, seed: Seed) -> Result<Resolved, Stop<'a>>
     ensures is { IfOk result (λ r. resolved_view r ≡ demo_job seed.number) }
     ensures memory { IfErr result (λ why. stop_outcome why ≡ None) }
 {
     let texts = make(alloc, seed.number)?;
     let job = job_from(alloc, BatchRule::Without, NAME, Some(texts.job.as_slice()))?;
-    let came = came_files(alloc, &texts)?;
-    let tables = match tables_of(alloc, &job, &came) {
+    let bytes_read = generated_files(alloc, &texts)?;
+    let tables = match tables_of(alloc, &job, &bytes_read) {
         Ok(tables) => tables,
         Err(stop) => return Err(stop.owned(alloc)),
     };

@@ -37,7 +37,7 @@ pub(crate) struct Diff<'a> {
     tolerance: Option<Tolerance>,
 }
 
-// The numbers of the words, each where its word is one in its range.
+// The numbers that the words spell, each only if it is in its range.
 #[derive(Clone, Copy)]
 struct Numbers {
     l10: Option<u32>,

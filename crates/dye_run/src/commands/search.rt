@@ -27,7 +27,7 @@ use shade_report::{Shown, outcome_text};
 use shelf_io::Shelf;
 use std::alloc::{AllocError, Global};
 
-/// A search among the recipes of a job, which has a batch as this rule asks.
+/// A search among the recipes of a job. The rule says whether the job must have a batch.
 #[derive(Clone, Copy)]
 pub(crate) struct Search<'a>(pub CertWords<'a>, pub BatchRule);
 
@@ -53,7 +53,7 @@ pub(crate) fn search_land(alloc: Global, land: &RecipeLand) -> Result<Outcome, A
     search(alloc, land, budget_of(land), &mut meter)
 }
 
-/// What is shown of the recipe of a match.
+/// The values shown of the recipe of a match.
 fn shown_match(land: &RecipeLand, claim: &Claim) -> Option<Shown>
     requires { IfSome (claimed_recipe claim.now) (IsRecipe land.now.grid) }
     ensures { option_map shown_view result ≡ matched_values land.now claim.now }
@@ -65,7 +65,7 @@ fn shown_match(land: &RecipeLand, claim: &Claim) -> Option<Shown>
     }
 }
 
-/// What is shown of each of these recipes.
+/// The values shown of each of these recipes.
 fn shown_each(alloc: Global, land: &RecipeLand, recipes: &[Steps]) -> Result<Vec<Shown>, AllocError>
     requires { All (λ s. IsRecipe land.now.grid s.items) recipes.now }
     ensures { IfOk result (λ each. map shown_view each.items
@@ -78,7 +78,7 @@ fn shown_each(alloc: Global, land: &RecipeLand, recipes: &[Steps]) -> Result<Vec
     Ok(each)
 }
 
-/// The text on what a search ended with.
+/// The text about the result of a search.
 fn result_text(alloc: Global, land: &RecipeLand, found: &Outcome) -> Result<Vec<u8>, AllocError>
     requires claimed { IfSome (claimed_recipe found.now.cert.claim) (IsRecipe land.now.grid) }
     requires listed { All (IsRecipe land.now.grid) found.now.cert.undecided }

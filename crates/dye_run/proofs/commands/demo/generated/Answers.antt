@@ -9,7 +9,7 @@ use Rattle.dye_run.proofs.commands.demo.generated.Goals as goal
 pub tables_of-requires : goal.tables_of-requires
 tables_of-requires c =
     let a = c.in_ok-texts.ensures.accepted in
-    generated_fit _ _ _ _ _ a c.in_ok-job.job c.in_ok-came.came (job_is _ _ _ _ _ a c.as_slice.result.now c.as_slice.ensures _ (job_view c.in_ok-job.job) c.in_ok-job.ensures) c.in_ok-came.ensures.curves c.in_ok-came.ensures.weights
+    generated_fit _ _ _ _ _ a c.in_ok-job.job c.in_ok-bytes_read.bytes_read (job_is _ _ _ _ _ a c.as_slice.result.now c.as_slice.ensures _ (job_view c.in_ok-job.job) c.in_ok-job.ensures) c.in_ok-bytes_read.ensures.curves c.in_ok-bytes_read.ensures.weights
 
 pub returns-in_err-job : goal.returns-in_err-job
 returns-in_err-job c =
@@ -24,14 +24,14 @@ returns-in-Err c =
     record {
       is = tt;
       memory = not_owned (stop_outcome c.in-Err.stop) (stop_outcome c.owned.result) c.owned.ensures
-          (not_refused (stop_outcome c.in-Err.stop) _ _ (tables_are _ _ _ _ _ a (job_view c.in_ok-job.job) _ _ job c.in_ok-came.ensures.curves c.in_ok-came.ensures.weights) c.in-Err.ensures.is);
+          (not_refused (stop_outcome c.in-Err.stop) _ _ (tables_are _ _ _ _ _ a (job_view c.in_ok-job.job) _ _ job c.in_ok-bytes_read.ensures.curves c.in_ok-bytes_read.ensures.weights) c.in-Err.ensures.is);
     }
 
 pub returns : goal.returns
 returns c =
     let a = c.in_ok-texts.ensures.accepted in
     let job = job_is _ _ _ _ _ a c.as_slice.result.now c.as_slice.ensures _ (job_view c.in_ok-job.job) c.in_ok-job.ensures in
-    let tables = tables_view_is _ _ _ _ _ a (job_view c.in_ok-job.job) _ _ (job_tables_view c.in-Ok.tables) job c.in_ok-came.ensures.curves c.in_ok-came.ensures.weights c.in-Ok.ensures.is in
+    let tables = tables_view_is _ _ _ _ _ a (job_view c.in_ok-job.job) _ _ (job_tables_view c.in-Ok.tables) job c.in_ok-bytes_read.ensures.curves c.in_ok-bytes_read.ensures.weights c.in-Ok.ensures.is in
     let whole = resolves _ _ _ _ _ a _ (job_view c.in_ok-job.job) (job_tables_view c.in-Ok.tables) job tables in
     record {
       is = gives_value resolved_view c.resolved_from.result _ _ whole c.resolved_from.ensures;
