@@ -13,7 +13,7 @@ fn checksum(text: &[u8]) -> u32 {
     sum
 }
 
-// The expected checksums are those of texts that a program of its own made by the generator's rules.
+// The expected checksums are those of texts that a separate program made by the generator's rules.
 #[test]
 fn tables(rt: HostRuntime) -> Result<(), Fail> {
     for (number, curves) in [(1, 3_740_626_782), (999_999, 2_899_043_892)] {

@@ -1,4 +1,5 @@
-//! Tests of generated jobs. They stand in a crate above, as a crate with tests is proved twice.
+//! Tests of generated jobs. They are in a crate of their own, since a crate with tests is proved
+//! twice.
 #![tactic(auto)]
 
 #[cfg(test)]

@@ -1,5 +1,5 @@
-//! The program `dye`: the words of its command line, real files and standard output, handed to the
-//! one call that does all the work.
+//! The program `dye`: hands the words of its command line, the real files and standard output to
+//! the one call that does all the work.
 #![tactic(auto)]
 
 use dye_run::run;
@@ -9,7 +9,7 @@ use std::process::ExitCode;
 use std::rt::Env;
 use std::{env, io};
 
-/// The status where the words take more memory than there is.
+/// The status where memory runs out while the words are read.
 const OUT_OF_MEMORY: u8 = 10;
 
 // The words after the program's name. A word that is not UTF-8 makes the call fail as a whole.

@@ -17,7 +17,7 @@ use Rattle.cert_check.proofs.Sound.{means}
 use Rattle.job_file.specs.Resolve.{ResolvedJob}
 use Rattle.price_grid.specs.Grid.{IsRecipe}
 use Rattle.price_grid.specs.declared.dye_cost.DyeCost.{DyeCost}
-use Rattle.recipe_judge.proofs.Within.{recipe_within}
+use Rattle.recipe_judge.proofs.GridBoxes.{up_to_most_is_recipe}
 use Rattle.recipe_judge.specs.Land.{IsLand}
 use Rattle.recipe_judge.specs.Recipes.{recipe_land}
 use Rattle.shade_report.specs.Outcomes.{outcome_text}
@@ -29,7 +29,7 @@ use Rattle.dye_run.proofs.ShowFacts.{recipe_fits}
 
 -- a recipe of the landscape of a job is one of its grid
 in_grid : (r : ResolvedJob) (steps : List ℕ) → IsWithin steps (recipe_land r).top → IsRecipe r.grid steps
-in_grid r steps w = recipe_within r.grid steps w.1
+in_grid r steps w = up_to_most_is_recipe r.grid steps w.1
 
 claim_in_grid : (r : ResolvedJob) (listed : List (List ℕ)) (claim : Claim) → Means (recipe_land r) listed claim → IfSome (claimed_recipe claim) (IsRecipe r.grid)
 claim_in_grid r listed (Match recipe) m = in_grid r recipe.items m.claimed.1

@@ -37,7 +37,8 @@ stop_outcome stop.Memory = None
 abbrev pub Refuses : {Y : Type 0} → Stop → Result Y Fault → Type 0
 Refuses why step = IfSome (stop_outcome why) (λ o. (fault : Fault) × (o ≡ refused fault) × (step ≡ Err fault))
 
--- the value of a step, through `view`, is that of its definition, or the step refuses as its definition does, unless memory ran out
+-- the value of a step, through `view`, is that of its definition, or the step refuses as its definition does, unless memory
+-- ran out
 abbrev pub Gives : {X Y : Type 0} → (X → Y) → Result X Stop → Result Y Fault → Type 0
 Gives view (Ok x) step = step ≡ Ok (view x)
 Gives view (Err why) step = Refuses why step

@@ -36,11 +36,11 @@ up_to_itself (n ∷ steps) = (omega arith, up_to_itself steps)
 abbrev pub most_of : List DyeCost → List ℕ
 most_of grid = map (λ cost. cost.most) grid
 
-within_most : (grid : List DyeCost) (high : List ℕ) → IsRecipe grid high → IsUpTo high (most_of grid)
-within_most [] [] h = tt
-within_most [] (n ∷ high) h = absurd h
-within_most (cost ∷ grid) [] h = absurd h
-within_most (cost ∷ grid) (n ∷ high) h = (h.0, within_most grid high h.1)
+recipe_up_to_most : (grid : List DyeCost) (high : List ℕ) → IsRecipe grid high → IsUpTo high (most_of grid)
+recipe_up_to_most [] [] h = tt
+recipe_up_to_most [] (n ∷ high) h = absurd h
+recipe_up_to_most (cost ∷ grid) [] h = absurd h
+recipe_up_to_most (cost ∷ grid) (n ∷ high) h = (h.0, recipe_up_to_most grid high h.1)
 
 -- ---- the strength
 
@@ -66,27 +66,27 @@ sum_rises : (k a b : Ends) → a.hi ≤ℤ b.hi → (sum_of k a).hi ≤ℤ (sum_
 unfolding sum_of
 sum_rises k a b le = omega (arith, ints)
 
--- neither of two
+-- where a disjunction is false, both sides are
 neither : (a b : Bool) → (a || b) ≡ false → (a ≡ false) × (b ≡ false)
 neither true b h = cc
 neither false b h = (refl, h)
 
 not_above : (limit room : ℕ) (strong weak : ℤ) → int_lt (pos limit) strong ≡ false → weak ≤ℤ strong → limit ≤ room → weak ≤ℤ pos room
-not_above limit room strong weak test le within = omega (arith, ints)
+not_above limit room strong weak test le enough_room = omega (arith, ints)
 
 -- a box is not too strong where all dyes at their most steps are not
 mixture_weak : (n wave limit room : ℕ) (dyes : List DyeData) (low high most : List ℕ) (base : List Ends) → limit ≤ room → IsUpTo low high → IsUpTo high most
     → list_any (λ q. int_lt (pos limit) q.hi) (mixture_from n (portions dyes most most) wave base) ≡ false
     → All (λ q. q.hi ≤ℤ pos room) (mixture_from n (portions dyes low high) wave base)
 unfolding mixture_from
-mixture_weak n wave limit room dyes low high most [] within h g weak = λ k d lt. absurd (omega (arith, lt))
-mixture_weak n wave limit room dyes low high most (b ∷ base) within h g weak =
+mixture_weak n wave limit room dyes low high most [] enough_room h g weak = λ k d lt. absurd (omega (arith, lt))
+mixture_weak n wave limit room dyes low high most (b ∷ base) enough_room h g weak =
     let here = contributions_at n wave (portions dyes low high) in
     let there = contributions_at n wave (portions dyes most most) in
     let both = neither (int_lt (pos limit) (sum_of b there).hi) (list_any (λ (q : Ends). int_lt (pos limit) q.hi) (mixture_from n (portions dyes most most) (wave + 1) base)) weak in
     All-cons (λ (q : Ends). q.hi ≤ℤ pos room) (sum_of b here) (mixture_from n (portions dyes low high) (wave + 1) base)
-    (not_above limit room (sum_of b there).hi (sum_of b here).hi both.0 (sum_rises b here there (contributions_rise n wave dyes low high most h g)) within)
-    (mixture_weak n (wave + 1) limit room dyes low high most base within h g both.1)
+    (not_above limit room (sum_of b there).hi (sum_of b here).hi both.0 (sum_rises b here there (contributions_rise n wave dyes low high most h g)) enough_room)
+    (mixture_weak n (wave + 1) limit room dyes low high most base enough_room h g both.1)
 
 can_reflect : (base : List ℕ) (dyes : List DyeData) (low high most : List ℕ) → IsUpTo low high → IsUpTo high most → is_too_strong base dyes most ≡ false
     → CanReflect (10 ^ 12) (mixture_ks_at (10 ^ 12) (base_at (10 ^ 12) base) (portions dyes low high))
@@ -142,7 +142,7 @@ can_mix r low high kept grid h g =
         hi_count = omega (arith, dyes, highs);
         each = subst (λ k. All (IsPortion k) (portions r.dyes low high)) (sym count) (portions_fit (length r.substrate) r.dyes r.grid low high kept.steps grid.ranges kept.waves.dyes h g);
       };
-      reflects = can_reflect (base_curve r.substrate r.batch) r.dyes low high (most_of r.grid) h (within_most r.grid high g) kept.weak;
+      reflects = can_reflect (base_curve r.substrate r.batch) r.dyes low high (most_of r.grid) h (recipe_up_to_most r.grid high g) kept.weak;
     }
 
 -- ---- the range of the reflectances
@@ -176,7 +176,7 @@ mixtures_in_range n wave ps (b ∷ base) some range each weak =
     All-cons (UpTo n) (reflectance_at n q) (map (reflectance_at n) later) (reflectance_range n q some strength)
     (mixtures_in_range n (wave + 1) ps base some (All-tail (UpTo (5000 * n)) b base range) each (All-tail (λ (q : Ends). q.hi ≤ℤ pos (2 * 10 ^ 6 * n)) q later weak))
 
--- the reflectances of what can be mixed lie from 0 to 1
+-- the reflectances of a mixture are from 0 to 1
 pub mixed_in_range : (n : ℕ) (base : List Ends) (ps : List Portion) → 0 < n → IsBase n base → All (λ p. p.fewest ≤ p.most) ps → CanReflect n (mixture_ks_at n base ps) → All (UpTo n) (mixed_at n base ps)
 unfolding mixed_at
 mixed_in_range n base ps some kept each weak = mixtures_in_range n 0 ps base some kept.range each weak

@@ -23,7 +23,7 @@ use Rattle.recipe_judge.specs.Evaluation.{differences_under, spectrum_of}
 use Rattle.recipe_judge.specs.Laws.{DifferencesEnclose}
 use Rattle.recipe_judge.proofs.Boxes.{can_mix, mixed_in_range, portions_ordered}
 
--- what is enclosed by an interval from 0 to 1 lies from 0 to 1
+-- what is enclosed by an interval from 0 to 1 is itself from 0 to 1
 finer_up_to : (n m : ℕ) (a b : Ends) → UpTo n a → Encloses m a b → UpTo (m * n) b
 finer_up_to n m a b range h =
     record { not_negative = low_not_negative m a b h range.not_negative; ordered = h.ordered; below = trans_ℤ b.hi (pos m *ℤ a.hi) (pos (m * n)) h.high (mono_left m a.hi (pos n) range.below) }

@@ -1,4 +1,4 @@
--- What is kept of the lights of a job gives the differences of a sample.
+-- By the invariant, the lights of a job have the defined differences of a sample.
 use Rattle.std.proofs.Common.{◌≡◌, ◌∙◌, ◌^◌, ℕ, List, length, refl, ap}
 use Rattle.std.proofs.lemmas.List.{length-map}
 use Rattle.interval_specs.specs.Ends.{Ends}
@@ -18,7 +18,7 @@ module _ (r : ResolvedJob) (limits : LimitsView) (base : List Ends) (of_lights :
   pub kept_deltas : (low high : List ℕ) (sample : List Ends) → sample ≡ spectrum_of (10 ^ 12) r low high → deltas sample ≡ differences_at (10 ^ 12) r low high
   kept_deltas low high sample e = kept.deltas_are sample ∙ ap (λ (s : List Ends). differences_under (10 ^ 12) (spectrum_at (10 ^ 12) r.standard) r.job.light r.weights s) e
 
-  -- and the verdict on them
+  -- the verdict on these differences
   pub kept_verdict : (low high : List ℕ) (sample : List Ends) → sample ≡ spectrum_of (10 ^ 12) r low high
       → verdict_at (10 ^ 12) of_lights (deltas sample) ≡ verdict_at (10 ^ 12) (tolerances r.job.light) (differences_at (10 ^ 12) r low high)
   kept_verdict low high sample e = rw (kept_deltas low high sample e, kept.tolerances_are) refl

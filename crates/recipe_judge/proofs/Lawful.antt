@@ -1,4 +1,4 @@
--- The recipes of a job keep what every landscape keeps.
+-- The recipes of a job have the properties of every landscape.
 use Rattle.std.proofs.Common.{◌≡◌, ◌⊎◌, ◌+◌, ◌*◌, ◌^◌, ◌<◌, ◌≤◌, ◌∙◌, ◌↔◌, ◌||◌, ◌==◌, if◌then◌else◌, ⊎_elim, inl, inr, mul-le-mul, ℕ, zero, suc, Bool, true, false, Option, Some, None, is_some, is_none, List, [], ◌∷◌, All, length, map, refl, sym, ap, subst, arith}
 use Rattle.std.specs.List.{AllZip}
 use Rattle.std.proofs.lemmas.Bool.Decides.{nat_tests}
@@ -25,7 +25,7 @@ use Rattle.recipe_judge.specs.Recipes.{all_recipes, failing_light, grade_of, lig
 use Rattle.recipe_judge.proofs.Boxes.{fits_units, up_to_itself}
 use Rattle.recipe_judge.proofs.LightVerdicts.{enclosed_ordered, first_is, light_fails_within, names_light, no_light_beyond}
 use Rattle.recipe_judge.proofs.NarrowLaw.{differences_narrow}
-use Rattle.recipe_judge.proofs.Within.{all_has_dyes, all_is_box, high_recipe, inner_recipe, recipe_within}
+use Rattle.recipe_judge.proofs.GridBoxes.{all_has_dyes, all_is_box, high_recipe, inner_recipe, up_to_most_is_recipe}
 
 -- ---- first numbers
 
@@ -98,15 +98,15 @@ small_steps (dye ∷ grid) ranges =
 
 -- ---- lights
 
--- one difference a light
+-- one difference for each light
 length-differences : (n : ℕ) (standard sample : List Ends) (lights : List JobLight) (tables : List WeightTable) → length tables ≡ length lights → length (differences_under n standard lights tables sample) ≡ length lights
 length-differences n standard sample [] tables h = refl
 length-differences n standard sample (l ∷ lights) [] h = absurd (omega (arith, h))
 length-differences n standard sample (l ∷ lights) (w ∷ tables) h = ap suc (length-differences n standard sample lights tables (omega (arith, h)))
 
 -- the differences over a box enclose those of a box within it
-within_encloses : (r : ResolvedJob) (b c : Span) → IsLand r → IsRecipe r.grid b.hi → IsUpTo b.lo c.lo → IsBox c → IsUpTo c.hi b.hi → AllZip (Encloses 1) (differences_at (10 ^ 12) r b.lo b.hi) (differences_at (10 ^ 12) r c.lo c.hi)
-within_encloses r b c land g h k l = differences_narrow r 1 b.lo b.hi c.lo c.hi (omega arith) land g h k l
+inner_enclosed : (r : ResolvedJob) (b c : Span) → IsLand r → IsRecipe r.grid b.hi → IsUpTo b.lo c.lo → IsBox c → IsUpTo c.hi b.hi → AllZip (Encloses 1) (differences_at (10 ^ 12) r b.lo b.hi) (differences_at (10 ^ 12) r c.lo c.hi)
+inner_enclosed r b c land g h k l = differences_narrow r 1 b.lo b.hi c.lo c.hi (omega arith) land g h k l
 
 one_more_is : (i : ℕ) → 1 + i ≡ suc i
 one_more_is i = omega arith
@@ -119,7 +119,7 @@ light_is r b land box g =
     let ts = tolerances r.job.light in
     let count : length ts ≡ length r.job.light = length-map r.job.light (λ light. light.tolerance) in
     let same : length ds ≡ length ts = length-differences _ _ _ r.job.light r.weights land.found.lights ∙ sym count in
-    let ordered = enclosed_ordered 1 ds ds (within_encloses r b b land g (up_to_itself b.lo) box (up_to_itself b.hi)) in
+    let ordered = enclosed_ordered 1 ds ds (inner_enclosed r b b land g (up_to_itself b.lo) box (up_to_itself b.hi)) in
     subst (λ k. first_from (recipe_land r) (λ j. light_fails (10 ^ 12) ts ds j) 1 k ≡ failing_light (verdict_at (10 ^ 12) ts ds)) count
     (first_is (recipe_land r) (10 ^ 12) 1 (λ j. light_fails (10 ^ 12) ts ds j) ts ds same ordered (λ i. ap (λ j. light_fails (10 ^ 12) ts ds j) (one_more_is i)))
 
@@ -138,7 +138,7 @@ light_within : (r : ResolvedJob) (b : Span) (steps : List ℕ) → IsLand r → 
     → (recipe_land r).failing j b ≡ true → (recipe_land r).failing j (single steps) ≡ true
 light_within r b steps land g w j e =
     light_fails_within (10 ^ 12) (tolerances r.job.light) (differences_at (10 ^ 12) r b.lo b.hi) (differences_at (10 ^ 12) r steps steps) j
-    (within_encloses r b (single steps) land g w.0 (up_to_itself steps) w.1) e
+    (inner_enclosed r b (single steps) land g w.0 (up_to_itself steps) w.1) e
 
 own_light : (r : ResolvedJob) (steps : List ℕ) → IsLand r → IsRecipe r.grid steps → (is_some (light_of (recipe_land r) (single steps)) ≡ true) ↔ ((recipe_land r).grade steps ≡ fails)
 own_light r steps land g =
@@ -170,10 +170,10 @@ land_is_lawful broken alone r land some few =
       small = small_steps grid land.grid.ranges;
       some_light = some;
       few_lights = few;
-      cheap = λ steps w. let bound = cost_small grid steps land.grid.ranges (recipe_within grid steps w.1) in omega (arith, bound, land.grid.few);
+      cheap = λ steps w. let bound = cost_small grid steps land.grid.ranges (up_to_most_is_recipe grid steps w.1) in omega (arith, bound, land.grid.few);
       no_limit = λ k b h. no_such_limit (λ limit. shuts r.grid (over_batch r.limits r.job.batch) limit b.lo b.hi) k h;
       no_light = λ j b h. no_such_light r b j h;
       shut = λ b box inside shut steps w admitted. shut_fails broken alone r b steps land inside shut w admitted;
       grows = λ low high l h up. cost_grows grid low high up;
-      own = λ steps w admitted. own_light r steps land (recipe_within grid steps w.1);
+      own = λ steps w admitted. own_light r steps land (up_to_most_is_recipe grid steps w.1);
     }

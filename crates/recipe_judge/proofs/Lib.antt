@@ -2,7 +2,7 @@ mod FewItems
 mod Limits
 pub mod Boxes
 pub mod FinerLaw
-pub mod Within
+pub mod GridBoxes
 pub mod NarrowLaw
 mod LightVerdicts
 mod Kept

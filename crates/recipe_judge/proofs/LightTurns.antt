@@ -11,18 +11,18 @@ use Rattle.metamerism.specs.Verdicts.{joint, light_verdict, verdict_from}
 use Rattle.recipe_judge.specs.Recipes.{is_fail, light_fails}
 use Rattle.recipe_judge.proofs.LightVerdicts.{fails_at_is, is_failing}
 
--- what holds of all items holds of the one that was read
+-- what holds for all items holds for the one that was read
 pub holds_at : {A : Type 0} (P : A → Type 0) (xs : List A) (i : ℕ) (x : A) → i < length xs → slice_get xs i ≡ Some x → All P xs → P x
 holds_at P xs i x lt here all = subst P (get_or_from_slice_get xs i x x here) (all i x lt)
 
--- what f makes of the item that was read
+-- the value of f at the item that was read
 pub read_map : {A B : Type 0} (f : A → B) (xs : List A) (i : ℕ) (x : A) → slice_get xs i ≡ Some x → slice_get (map f xs) i ≡ Some (f x)
 read_map f xs i x here = slice_get-map f xs i ∙ ap (option_map f) here
 
 drop_read : {A : Type 0} (xs : List A) (i : ℕ) (x : A) → i < length xs → slice_get xs i ≡ Some x → drop i xs ≡ x ∷ drop (suc i) xs
 drop_read {A = A} xs i x lt here = drop-cons xs i x lt ∙ ap (λ (y : A). y ∷ drop (suc i) xs) (get_or_from_slice_get xs i x x here)
 
--- the verdict on the lights from an index on, by the light that is there
+-- the verdict on the lights from an index on, by the light at the index
 pub verdict_turn : (n i : ℕ) (ts : List ℕ) (ds : List Ends) (t : ℕ) (d : Ends) → i < length ts → slice_get ts i ≡ Some t → i < length ds → slice_get ds i ≡ Some d
     → verdict_from n (i + 1) (drop i ts) (drop i ds) ≡ joint (light_verdict n t (i + 1) d) (verdict_from n (i + 1 + 1) (drop (i + 1) ts) (drop (i + 1) ds))
 unfolding verdict_from
@@ -57,7 +57,7 @@ undecided_stays Undecided Pass e = refl
 undecided_stays Undecided (Fail j) e = refl
 undecided_stays Undecided Undecided e = refl
 
--- the light of a number, where its tolerance and its difference are there
+-- the light with a number, whose tolerance and difference are in the lists
 pub light_fails_is : (n : ℕ) (ts : List ℕ) (ds : List Ends) (light t : ℕ) (d : Ends) → 0 < light → slice_get ts (light - 1) ≡ Some t → slice_get ds (light - 1) ≡ Some d → light_fails n ts ds light ≡ is_fail n t d
 light_fails_is n ts ds zero t d some h k = absurd (omega (arith, some))
 light_fails_is n ts ds (suc i) t d some h k =

@@ -1,4 +1,4 @@
--- The verdict on all lights tells the first light that fails, and so what is known of a box.
+-- The verdict on all lights names the first light that fails, and so determines how a box is judged.
 use Rattle.std.proofs.Common.{◌≡◌, ◌+◌, ◌*◌, ◌<◌, ◌≤◌, ◌*ℤ◌, ◌∙◌, ◌↔◌, ℕ, zero, suc, pos, Bool, true, false, Some, None, is_some, List, [], ◌∷◌, All, length, refl, ap, int_le, if◌then◌else◌, arith}
 use Rattle.std.specs.Prelude.{slice_get}
 use Rattle.std.specs.List.{AllZip}
@@ -44,7 +44,7 @@ joint_none Undecided Pass e = refl
 joint_none Undecided (Fail k) e = refl
 joint_none Undecided Undecided e = refl
 
--- the verdict under the light of a number names that number
+-- the verdict under the light with a number names that number
 names_number : (n t number : ℕ) (d : Ends) → is_failing (light_verdict n t number d) ≡ true → light_verdict n t number d ≡ Fail number
 unfolding light_verdict
 names_number n t number d = by (int_le (pos 1000 *ℤ d.hi) (pos (t * n))) (is_fail n t d) where
@@ -68,15 +68,15 @@ first_is l n number test (t ∷ ts) (d ∷ ds) same ordered tests =
     here : test number ≡ is_fail n t d
     here = ap test (omega arith) ∙ tests 0
 
-    said : is_failing (light_verdict n t number d) ≡ is_fail n t d
-    said = verdict_not_fails n t number d (ordered 0 d (omega arith))
+    judged_failing : is_failing (light_verdict n t number d) ≡ is_fail n t d
+    judged_failing = verdict_not_fails n t number d (ordered 0 d (omega arith))
 
     by : (f : Bool) → is_fail n t d ≡ f → first_from l test (number + 1) (length ts) ≡ failing_light (verdict_from n (number + 1) ts ds)
         → first_from l test number (suc (length ts)) ≡ failing_light (joint (light_verdict n t number d) (verdict_from n (number + 1) ts ds))
-    by true e rest = rw (here ∙ e, names_number n t number d (said ∙ e)) refl
-    by false e rest = rw (here ∙ e, joint_none (light_verdict n t number d) (verdict_from n (number + 1) ts ds) (said ∙ e)) rest
+    by true e rest = rw (here ∙ e, names_number n t number d (judged_failing ∙ e)) refl
+    by false e rest = rw (here ∙ e, joint_none (light_verdict n t number d) (verdict_from n (number + 1) ts ds) (judged_failing ∙ e)) rest
 
--- what is known of a box that no limit excludes, by the verdict on its recipes together
+-- how a box that no limit excludes is judged, by the verdict on its recipes together
 pub judged_is : (l : Land) (v : Verdict) (alone : Bool) (g : Grade) → (alone ≡ true → g ≡ grade_of v) → judged_by l None (failing_light v) alone g ≡ judged_from v alone
 judged_is l Pass false g h = refl
 judged_is l Pass true g h = rw (h refl) refl
@@ -118,14 +118,14 @@ pub no_light_beyond : (n : ℕ) (ts : List ℕ) (ds : List Ends) (light : ℕ) �
 no_light_beyond n ts ds zero h = refl
 no_light_beyond n ts ds (suc i) h = fails_beyond n ts ds i (omega (arith, h))
 
--- ends of intervals that something encloses are in order
+-- the ends of enclosed intervals are in order
 pub enclosed_ordered : (m : ℕ) (ds ds' : List Ends) → AllZip (Encloses m) ds ds' → All IsOrdered ds'
 enclosed_ordered m [] [] h = λ k d lt. absurd (omega (arith, lt))
 enclosed_ordered m [] (d' ∷ ds') h = absurd h
 enclosed_ordered m (d ∷ ds) [] h = absurd h
 enclosed_ordered m (d ∷ ds) (d' ∷ ds') h = All-cons IsOrdered d' ds' h.0.ordered (enclosed_ordered m ds ds' h.1)
 
--- the light at an index, where its tolerance and its difference are there
+-- the light at an index, whose tolerance and difference are in the lists
 pub fails_at_is : (n : ℕ) (ts : List ℕ) (ds : List Ends) (i t : ℕ) (d : Ends) → slice_get ts i ≡ Some t → slice_get ds i ≡ Some d → fails_at n ts ds i ≡ is_fail n t d
 fails_at_is n [] ds i t d h k = absurd cc
 fails_at_is n (t' ∷ ts) [] i t d h k = absurd cc

@@ -27,7 +27,7 @@ use Rattle.recipe_judge.specs.Land.{IsLand}
 use Rattle.recipe_judge.specs.Laws.{DifferencesNarrow}
 use Rattle.recipe_judge.proofs.Boxes.{can_mix, mixed_in_range, portions_ordered}
 use Rattle.recipe_judge.proofs.FinerLaw.{waves_up_to}
-use Rattle.recipe_judge.proofs.Within.{portions_within, up_to_last, within_recipe}
+use Rattle.recipe_judge.proofs.GridBoxes.{portions_within, up_to_last, fewer_is_recipe}
 
 -- each wave encloses itself
 waves_enclose_themselves : (n : ℕ) (as' : List Ends) → All (UpTo n) as' → EnclosesWaves 1 as' as'
@@ -48,14 +48,14 @@ length-base_at : (n : ℕ) (curve : List ℕ) → length (base_at n curve) ≡ l
 unfolding base_at
 length-base_at n curve = length-map curve (ks_at n)
 
--- a base at a finer scale is one
+-- a base at a finer scale is a base
 finer_base : (n m : ℕ) (curve : List ℕ) → IsBase n (base_at n curve) → IsBase (m * n) (base_at (m * n) curve)
 finer_base n m curve kept = record {
   count = (length-base_at (m * n) curve ∙ sym (length-base_at n curve)) ∙ kept.count;
   range = subst (λ k. All (UpTo k) (base_at (m * n) curve)) (omega arith) (waves_up_to (5000 * n) m (base_at n curve) (base_at (m * n) curve) kept.range (base_encloses n m curve));
 }
 
--- the reflectances over a box lie from 0 to 1, at every finer scale
+-- the reflectances over a box are from 0 to 1, at every finer scale
 spectrum_up_to : (r : ResolvedJob) (m : ℕ) (low high : List ℕ) → 0 < m → IsLand r → IsRecipe r.grid high → IsUpTo low high → All (UpTo (m * 10 ^ 12)) (spectrum_of (m * 10 ^ 12) r low high)
 spectrum_up_to r m low high some land g h =
     let curve = base_curve r.substrate r.batch in
@@ -72,6 +72,6 @@ differences_narrow r m low high low' high' some land g h k l =
     lights_narrow n r.job.light r.weights (spectrum_at n r.standard) (spectrum_of n r low high) (spectrum_of n r low' high') (omega (arith, some)) land.weights
     (spectrum_in_range n r.standard land.standard).range
     (spectrum_up_to r m low high some land g wide)
-    (spectrum_up_to r m low' high' some land (within_recipe r.grid high' high l g) k)
+    (spectrum_up_to r m low' high' some land (fewer_is_recipe r.grid high' high l g) k)
     (mixture_narrows n (base_at n curve) (portions r.dyes low high) (portions r.dyes low' high') (omega (arith, some)) (finer_base (10 ^ 12) m curve land.base)
     (portions_within r.dyes low high low' high' h k l))

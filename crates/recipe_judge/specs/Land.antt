@@ -1,4 +1,4 @@
--- What is kept of the recipes of a job.
+-- The invariant of the recipes of a job.
 use Rattle.std.specs.Prelude.{◌≡◌, ◌^◌, ℕ, Option, Some, None, List, All}
 use Rattle.batch_correct.specs.Shift.{with_new_bath}
 use Rattle.interval_specs.specs.Ends.{Ends}
@@ -13,7 +13,7 @@ use Rattle.spectral_tables.specs.Spectrum.{spectrum_at}
 use Rattle.spectral_tables.specs.WeightTable.{IsWeightTable}
 use Rattle.recipe_judge.specs.Evaluation.{differences_under, tolerances}
 
--- limits over the bath of a batch, if there is one
+-- limits with the bath of a batch counted, if there is a batch
 abbrev pub over_batch : LimitsView → Option JobBatch → LimitsView
 over_batch limits None = limits
 over_batch limits (Some batch) = with_new_bath limits batch.steps.items

@@ -7,11 +7,11 @@ use Rattle.price_grid.specs.Grid.{IsRecipe, IsUpTo}
 use Rattle.recipe_judge.specs.Evaluation.{differences_at}
 use Rattle.recipe_judge.specs.Land.{IsLand}
 
--- the differences of the recipes from low to high enclose those at every finer scale
+-- the differences of the recipes from low to high steps enclose those at every finer scale
 abbrev pub EnclosesFinerOf : ResolvedJob → (low high : List ℕ) → Type 0
 EnclosesFinerOf r low high = (m : ℕ) → 0 < m → AllZip (Encloses m) (differences_at (10 ^ 12) r low high) (differences_at (m * 10 ^ 12) r low high)
 
--- this holds of every job and of every box of its recipes
+-- this holds for every job and for every box of its recipes
 abbrev pub DifferencesEnclose : Type 0
 DifferencesEnclose = (r : ResolvedJob) (low high : List ℕ) → IsLand r → IsUpTo low high → IsRecipe r.grid high → EnclosesFinerOf r low high
 

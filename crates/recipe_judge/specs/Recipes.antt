@@ -16,7 +16,7 @@ use Rattle.price_grid.specs.Limits.{is_excluded}
 use Rattle.recipe_judge.specs.Evaluation.{differences_at, tolerances}
 use Rattle.recipe_judge.specs.Land.{over_batch}
 
--- the recipes of a grid: from no steps of each dye to its most
+-- the box of all recipes of a grid: from no steps of each dye to its most
 abbrev pub all_recipes : List DyeCost → Span
 all_recipes grid = record { lo = map (λ dye. 0) grid; hi = map (λ dye. dye.most) grid }
 
@@ -31,24 +31,24 @@ fails_at n (tolerance ∷ tolerances) [] i = false
 fails_at n (tolerance ∷ tolerances) (delta ∷ deltas) zero = is_fail n tolerance delta
 fails_at n (tolerance ∷ tolerances) (delta ∷ deltas) (suc i) = fails_at n tolerances deltas i
 
--- the light of a number fails, the first having the number 1
+-- the light with a number fails; the first light has the number 1
 abbrev pub light_fails : ℕ → List ℕ → List Ends → ℕ → Bool
 light_fails n tolerances deltas zero = false
 light_fails n tolerances deltas (suc i) = fails_at n tolerances deltas i
 
--- the verdict on a recipe in the words of landscapes
+-- the verdict on a recipe as a grade of a landscape
 abbrev pub grade_of : Verdict → Grade
 grade_of Pass = passes
 grade_of (Fail light) = fails
 grade_of Undecided = unsure
 
--- the light that a verdict says fails
+-- the failing light that a verdict names
 abbrev pub failing_light : Verdict → Option ℕ
 failing_light Pass = None
 failing_light (Fail light) = Some light
 failing_light Undecided = None
 
--- what the verdict on the recipes of a box together says of the box, where no limit excludes it
+-- how a box that no limit excludes is judged, from the verdict on its recipes together, and whether it is a single recipe
 abbrev pub judged_from : Verdict → (alone : Bool) → Judged
 judged_from (Fail light) alone = judged.Fail light
 judged_from Pass false = judged.StillOpen

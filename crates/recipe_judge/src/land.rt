@@ -1,4 +1,4 @@
-//! All recipes of a job.
+//! All recipes of a job, and what is computed once to judge them.
 
 ghost use Rattle.std.specs.Prelude.{◌≡◌, ◌^◌, IfOk};
 ghost use Rattle.job_file.specs.JobView.{job_view};
@@ -20,8 +20,9 @@ use price_grid::{Grid, Limits, Steps};
 use std::alloc::{AllocError, Global};
 use std::marker::Model;
 
-/// The recipes of a job, with what is computed once to judge any of them: what the dyes are added
-/// to, and the lights with the colour of the standard under each.
+/// The recipes of a job, with what is computed once to judge any of them: the limits over the bath,
+/// the K/S of the cloth that the dyes are added to, and the lights with the colour of the standard
+/// under each.
 #[derive(Drop)]
 pub struct RecipeLand {
     pub(crate) resolved: Resolved,
@@ -46,7 +47,7 @@ impl Model for RecipeLand {
         (tolerances_of l.lights) (deltas_under l.lights) };
 }
 
-/// The limits of a job over what is in its bath: the steps of the batch, where there is one.
+/// The limits of a job, with the steps of the batch counted as in the bath, if there is a batch.
 fn limits_of(resolved: &Resolved) -> Limits
     ensures { limits_view result
         ≡ over_batch (limits_view resolved.now.limits) resolved.now.job.batch }
@@ -63,7 +64,7 @@ fn grid_of(resolved: &Resolved) -> &Grid
     ensures held { IsGrid result.now }
 {
     let grid = &resolved.grid;
-    let _dyes = &grid.dyes; // read for what every grid keeps
+    let _dyes = &grid.dyes; // read only for the invariant of a grid
     grid
 }
 
@@ -76,7 +77,7 @@ impl RecipeLand {
         let limits = limits_of(&resolved);
         let base = base_of(&resolved);
         let lights = lights_of(&resolved);
-        // called for their contracts alone: the grid, the standard and the base are in range
+        // called only for their contracts: the grid, the standard and the base are in range
         let _ = grid_of(&resolved);
         let _ = resolved.standard.waves();
         let _ = base.waves();
@@ -96,14 +97,14 @@ impl RecipeLand {
         &self.resolved.job
     }
 
-    /// What the dyes cost, and how much of each may be weighed out.
+    /// The grid of recipes: what the dyes cost, and how much of each may be weighed out.
     pub fn grid(&self) -> &Grid
         ensures { result.now ≡ self.now.grid }
     {
         &self.resolved.grid
     }
 
-    /// What a recipe may be, over what is in the bath.
+    /// The limits that a recipe must keep, with what is in the bath counted.
     pub fn limits(&self) -> &Limits
         ensures is { limits_view result.now ≡ over_batch self.now.limits self.now.job.batch }
         ensures fit { FitGrid self.now.grid (limits_view result.now) }
@@ -111,7 +112,7 @@ impl RecipeLand {
         &self.limits
     }
 
-    /// The differences of a recipe from the standard, one a light.
+    /// The differences of a recipe from the standard, one for each light.
     pub fn differences(&self, steps: &Steps) -> Deltas<Base>
         requires { IsRecipe self.now.grid steps.now.items }
         ensures { result.each.items

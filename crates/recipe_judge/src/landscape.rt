@@ -1,4 +1,4 @@
-//! What a search and a check may ask of the recipes of a job.
+//! The recipes of a job as a landscape, which a search and a check can explore.
 
 ghost use Rattle.std.specs.Prelude.{◌≡◌, ◌^◌, true};
 ghost use Rattle.box_specs.specs.Landscape.{light_of, limit_of};
@@ -31,7 +31,7 @@ fn all_recipes(grid: &Grid) -> BoxR
     BoxR { lo, hi }
 }
 
-/// What the verdict on the recipes of a box together says of the box.
+/// How a box is judged: from the verdict on all its recipes, and whether it is a single recipe.
 fn judged_from(verdict: Verdict, alone: bool) -> Judged
     ensures { result ≡ judged_from verdict alone }
 {
@@ -57,7 +57,7 @@ impl RecipeLand {
         None
     }
 
-    /// The spectrum of the recipes between two corners together.
+    /// One spectrum for all recipes between two corners.
     fn spectrum_over(&self, low: &Steps, high: &Steps) -> Spectrum<Base>
         requires ordered { IsUpTo low.now.items high.now.items }
         requires recipe { IsRecipe self.now.grid high.now.items }
@@ -101,8 +101,8 @@ impl Landscape for RecipeLand {
     }
 
     fn top(&self) -> BoxR {
-        // called for their contracts alone: there are 1 to 4 lights, and a limit that excludes a
-        // box excludes each recipe in it
+        // called only for their contracts: there are 1 to 4 lights, and a limit that excludes a box
+        // excludes each recipe in it
         let _ = self.lights.count();
         limit_laws();
         all_recipes(self.grid())

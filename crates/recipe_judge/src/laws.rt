@@ -1,4 +1,4 @@
-//! The law of the differences of recipes. A call does nothing; what it ensures is the law.
+//! The law of the differences of recipes. A call does nothing at run time; its contract is the law.
 
 ghost use Rattle.price_grid.specs.Grid.{IsRecipe};
 ghost use Rattle.recipe_judge.specs.Laws.{DifferencesEnclose, DifferencesNarrow, EnclosesFinerOf};
@@ -6,15 +6,16 @@ ghost use Rattle.recipe_judge.specs.Laws.{DifferencesEnclose, DifferencesNarrow,
 use crate::land::RecipeLand;
 use price_grid::Steps;
 
-/// The law of [`RecipeLand::differences`]: those of a recipe enclose those at every finer scale.
+/// The law of [`RecipeLand::differences`]: the differences of a recipe enclose those at every finer
+/// scale.
 pub fn finer(land: &RecipeLand, steps: &Steps)
     requires { IsRecipe land.now.grid steps.now.items }
     ensures { EnclosesFinerOf land.now steps.now.items steps.now.items }
 {
-    let _ = land.job(); // called for its contract alone: what holds of the job
+    let _ = land.job(); // called only for its contract: the invariant of the recipes of a job
 }
 
-/// The same of the recipes from low to high steps of each dye, for any job.
+/// The same for the recipes from low to high steps of each dye, of any job.
 pub fn boxes()
     ensures { DifferencesEnclose }
 {}

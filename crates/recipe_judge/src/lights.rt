@@ -14,7 +14,7 @@ use job_file::{JobLight, Resolved};
 use metamerism::{Light, Lights, light};
 use spectral_tables::{Spectrum, Weights};
 
-/// A light of a job with its weights, over the standard of this spectrum.
+/// A light of a job with its weights, for a standard with this spectrum.
 fn light_of(of: &JobLight, weights: &Weights, standard: &Spectrum<Base>) -> Light<Base, Cmc>
     requires { IsLight of.now }
     ensures tolerance { result.tolerance ≡ of.now.tolerance }
@@ -22,7 +22,7 @@ fn light_of(of: &JobLight, weights: &Weights, standard: &Spectrum<Base>) -> Ligh
         ≡ difference_of_light (10 ^ 12) standard.now of.now weights.now sample }
     ensures held { IsWeightTable weights.now }
 {
-    // called for their contracts alone: both have the same number of wavelengths
+    // called only for their contracts: both have the same number of wavelengths
     let _ = weights.waves();
     let _ = standard.waves();
     let rule = Cmc {
@@ -32,7 +32,7 @@ fn light_of(of: &JobLight, weights: &Weights, standard: &Spectrum<Base>) -> Ligh
     light(weights, of.tolerance, rule, standard)
 }
 
-/// The lights of a job, over its standard.
+/// The lights of a job, for its standard.
 pub(crate) fn lights_of(resolved: &Resolved) -> Lights<Base, Cmc>
     ensures tolerances { tolerances_of result ≡ tolerances resolved.now.job.light.items }
     ensures deltas { (sample : List Ends) → deltas_under result sample

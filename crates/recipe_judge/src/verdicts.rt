@@ -1,4 +1,4 @@
-//! Judging samples under the lights of a job, a light at a time.
+//! Judging samples under the lights of a job, one light at a time.
 
 ghost use Rattle.std.specs.Prelude.{◌≡◌, ◌^◌};
 ghost use Rattle.interval_specs.specs.Ends.{IsOrdered};
@@ -12,7 +12,7 @@ use fix_bounds::Base;
 use metamerism::{Light, Lights, Verdict, delta_of, judge_light};
 use spectral_tables::Spectrum;
 
-/// The verdict on a sample under the light of a number.
+/// The verdict on a sample under the light with a number.
 fn verdict_under(light: &Light<Base, Cmc>, number: u8, sample: &Spectrum<Base>) -> Verdict
     requires { HasItemEachWave light.now.weights sample.now }
     ensures is { result ≡ light_verdict (10 ^ 12) light.now.tolerance number
@@ -30,7 +30,7 @@ pub(crate) fn light_fails(light: &Light<Base, Cmc>, sample: &Spectrum<Base>) -> 
     matches!(verdict_under(light, 1, sample), Verdict::Fail(_))
 }
 
-/// The verdict on a sample. No light is looked at after one that fails.
+/// The verdict on a sample under all lights. No light is evaluated after one that fails.
 pub(crate) fn verdict_on(lights: &Lights<Base, Cmc>, sample: &Spectrum<Base>) -> Verdict
     requires { FitsLights lights.now sample.now }
     ensures { result

@@ -1,5 +1,5 @@
 //! Tests of `run`, by bytes and status, over a shelf and a sink in memory, and of the texts that it
-//! prints. They stand in a crate above, so that each crate below is proved once.
+//! prints. They are in a crate of their own, so that each crate below is proved once.
 #![tactic(auto)]
 
 #[cfg(test)]

@@ -29,7 +29,7 @@ split_promise view a b more h =
     let e : length (a ++ b) + more ≡ length a + (length b + more) = omega (arith, length-append a b) in
     subst P e h
 
--- a text behind one that was put whole
+-- a text after one that was put whole
 pub puts_then : {T U E : Type 0} (a b : List ℕ) (x : U) (r : Result T E) (old mid new : SinkView) → Puts {T = U} {E = E} a (Ok x) old mid → Puts b r mid new → Puts (a ++ b) r old new
 puts_then a b x (Ok y) old mid new p q = record {
   taken = q.taken ∙ ap (λ o. append_known o b) p.taken ∙ known_more old.taken a b;

@@ -7,11 +7,11 @@ use Rattle.job_file.specs.declared.dye.JobDye.{JobDye}
 use Rattle.metamerism.specs.declared.outcomes.Verdict.{Verdict}
 use Rattle.shade_report.specs.Recipes.{dye_text, dyes_text, light_text, lights_text}
 
--- the items from an index on are the one there and those after it
+-- the items from an index on are the item at the index and those after it
 from : {A : Type 0} (xs : List A) (k : ℕ) (d : A) → k < length xs → drop k xs ≡ get_or xs k d ∷ drop (k + 1) xs
 from xs k d h = drop-cons xs k d h ∙ ap (λ j. get_or xs k d ∷ drop j xs) (sym (add-one k))
 
--- the same where the item there is known
+-- the same where the item at the index is known
 from_item : {A : Type 0} (xs : List A) (k : ℕ) (x : A) → k < length xs → x ≡ get_or xs k x → drop k xs ≡ x ∷ drop (k + 1) xs
 from_item xs k x h is = from xs k x h ∙ ap (λ y. y ∷ drop (k + 1) xs) (sym is)
 

@@ -10,7 +10,7 @@ each_view : {A B : Type 0} (f : B → List ℕ) (view : A → B) (xs : List A) �
 each_view f view [] = refl
 each_view f view (x ∷ xs) = ap (λ t. f (view x) ++ t) (each_view f view xs)
 
--- before the first of them
+-- before the first recipe
 pub undecided_start : (listed : List Shown) (text new : List ℕ) → new ≡ text ++ count_line (codes "undecided ") (length listed)
     → new ++ flat_map (λ (s : Shown). listed_text (shown_view s)) listed ≡ text ++ undecided_text (map shown_view listed)
 unfolding undecided_text

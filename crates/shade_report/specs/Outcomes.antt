@@ -1,11 +1,11 @@
--- The text of what a search found, and of what a check accepted.
+-- The texts of the result of a search, and of an accepted certificate.
 use Rattle.std.specs.Prelude.{ℕ, ◌+◌, List, [], ◌∷◌, ◌++◌, codes, decimal, flat_map, length, Option, Some, None, IsNone, IsSome}
 use Rattle.box_specs.specs.declared.certificate.Claim.{Claim}
 use Rattle.box_specs.specs.declared.certificate.Claim.TheVariants.{Floor, Match, NoMatch}
 use Rattle.job_file.specs.Job.{Values}
 use Rattle.shade_report.specs.Recipes.{RecipeValues, lights_text, recipe_text}
 
--- a value is given exactly for a match
+-- there is a value exactly where the claim is a match
 abbrev pub GoesWith : {A : Type 0} → Claim → Option A → Type 0
 GoesWith (Match recipe) given = IsSome given
 GoesWith NoMatch given = IsNone given
@@ -26,7 +26,7 @@ accepted_text (Floor cost) = codes "accepted floor\n"
 abbrev pub count_line : List ℕ → ℕ → List ℕ
 count_line word number = word ++ decimal number ++ 10 ∷ []
 
--- what is claimed, and how many boxes were judged for it
+-- the claim, and how many boxes were judged for it
 abbrev pub head_text : Claim → ℕ → List ℕ
 head_text claim boxes = claim_name claim ++ 10 ∷ count_line (codes "boxes ") boxes
 
@@ -37,7 +37,7 @@ found_text job (Match recipe) (Some matched) = recipe_text job matched
 found_text job NoMatch matched = []
 found_text job (Floor cost) matched = count_line (codes "floor ") cost
 
--- numbers with a comma between
+-- numbers with commas between them
 abbrev pub commas_text : List ℕ → List ℕ
 commas_text [] = []
 commas_text (n ∷ more) = decimal n ++ flat_map (λ m. 44 ∷ decimal m) more
@@ -62,8 +62,8 @@ cost_text (Match recipe) (Some cost) = count_line (codes "cost ") cost
 cost_text NoMatch cost = []
 cost_text (Floor floor) cost = count_line (codes "floor ") floor
 
--- the summary of a search for a job made of a number: by its claim, the numbers of listed recipes and of lines of the tree, and
--- how many boxes were judged. The text of the certificate has three lines more
+-- the summary of a search for the job with a number, from its claim, the numbers of listed recipes, of lines of the tree and of
+-- judged boxes, and the cost of a match. The text of the certificate has three lines more than the list and the tree
 unfoldable pub demo_text : ℕ → Claim → (listed lines boxes : ℕ) → Option ℕ → List ℕ
 demo_text number claim listed lines boxes cost =
     count_line (codes "demo ") number ++ head_text claim boxes ++ cost_text claim cost ++ count_line (codes "undecided ") listed

@@ -8,8 +8,8 @@ use Rattle.metamerism.specs.declared.outcomes.Verdict.{Verdict}
 use Rattle.metamerism.specs.declared.outcomes.Verdict.TheVariants.{Fail, Pass, Undecided}
 use Rattle.shade_report.specs.declared.shown.Shown.{Shown}
 
--- a recipe with what a report shows of it: its steps, its cost, its differences under the lights, the verdict on each of
--- them, and the verdict on all lights
+-- a recipe with the values that a report shows of it: its steps, its cost, its differences under the lights, the verdict on each
+-- of them, and the verdict on all lights
 pub record RecipeValues : Type 0 where
   pub steps : List ℕ
   pub cost : ℕ
@@ -17,7 +17,7 @@ pub record RecipeValues : Type 0 where
   pub each : List Verdict
   pub whole : Verdict
 
--- what a recipe of the code shows
+-- the values of a recipe in code
 abbrev pub shown_view : Shown → RecipeValues
 shown_view s = record { steps = s.steps.items; cost = s.cost; deltas = s.deltas.each.items; each = s.each.items; whole = s.whole }
 
@@ -26,8 +26,8 @@ verdict_name Pass = codes "pass"
 verdict_name (Fail number) = codes "fail"
 verdict_name Undecided = codes "undecided"
 
--- a dye of which there are n steps, for a load in kilograms. A unit is a thousandth of a percent of the cloth's weight, a
--- hundredth of a gram a kilogram
+-- a dye with n steps, for a load in kilograms. A unit is a thousandth of a percent of the cloth's weight, which is a hundredth of
+-- a gram for each kilogram
 unfoldable pub dye_text : ℕ → JobDye → ℕ → List ℕ
 dye_text load dye n =
     codes "dye " ++ dye.name ++ codes " steps " ++ decimal n ++ codes " percent " ++ fixed_text 3 (pos (n * dye.step))
@@ -39,7 +39,7 @@ dyes_text load [] steps = []
 dyes_text load (dye ∷ dyes) [] = []
 dyes_text load (dye ∷ dyes) (n ∷ steps) = dye_text load dye n ++ dyes_text load dyes steps
 
--- the difference under the light of a number, and the verdict on it
+-- the difference under the light with a number, and the verdict on it
 unfoldable pub light_text : ℕ → Ends → Verdict → List ℕ
 light_text number delta verdict =
     codes "light " ++ decimal number ++ codes " DE " ++ pair_text delta.lo delta.hi ++ 32 ∷ verdict_name verdict ++ 10 ∷ []

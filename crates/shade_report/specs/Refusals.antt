@@ -83,7 +83,7 @@ job_fault_text f = part_name f.part ++ 32 ∷ decimal f.item ++ 32 ∷ decimal f
 abbrev pub no_column_text : List ℕ → List ℕ
 no_column_text column = codes "no column " ++ column
 
--- the word is no recipe of the grid, or one that breaks the limit of a number
+-- the word is no recipe of the grid, or is one that breaks the limit with a number
 abbrev pub steps_text : Option LimitNo → List ℕ
 steps_text None = codes "steps refused\n"
 steps_text (Some limit) = codes "steps refused limit " ++ decimal limit.0 ++ 10 ∷ []
@@ -109,7 +109,7 @@ why_name why.NotUndecided = codes "NotUndecided"
 why_name why.NotPassing = codes "NotPassing"
 why_name why.WrongList = codes "WrongList"
 
--- a line of a certificate breaks a rule, of its grammar or of what it means
+-- a line of a certificate breaks a rule of the grammar, or does not hold
 abbrev pub cert_text : ℕ → List ℕ → List ℕ
 cert_text line rule = codes "certificate refused line " ++ decimal line ++ 32 ∷ rule ++ 10 ∷ []
 

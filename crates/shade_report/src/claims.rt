@@ -1,4 +1,4 @@
-//! The words of a claim.
+//! The words that are printed for a claim.
 
 ghost use Rattle.std.specs.Prelude.{◌≡◌, ◌++◌, OnOk};
 ghost use Rattle.shade_report.specs.Outcomes.{accepted_text, claim_name, head_text};
@@ -7,7 +7,7 @@ use crate::lines::push_line;
 use box_core::Claim;
 use std::alloc::AllocError;
 
-/// What a search found.
+/// The first line of a search's report: what it found.
 fn claim_name(claim: &Claim) -> &'static str
     ensures { result.now ≡ claim_name claim.now }
 {
@@ -18,7 +18,7 @@ fn claim_name(claim: &Claim) -> &'static str
     }
 }
 
-/// The report of a check that accepted a certificate, by what it claims.
+/// The report of a check that accepted a certificate, by the certificate's claim.
 pub fn accepted_text(claim: &Claim) -> &'static str
     ensures { result.now ≡ accepted_text claim.now }
 {

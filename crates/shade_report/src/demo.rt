@@ -1,4 +1,4 @@
-//! The summary of a search for a job that is made of a number.
+//! The summary of a search for a job that is generated from a number.
 
 ghost use Rattle.std.specs.Prelude.{◌≡◌, ◌++◌, IfOk, OnOk, length};
 ghost use Rattle.shade_report.specs.Outcomes.{GoesWith, cost_text, demo_text};
@@ -8,7 +8,7 @@ use crate::lines::push_line;
 use box_core::{Cert, Claim};
 use std::alloc::{AllocError, Global};
 
-/// How many lines of a certificate stand before the listed recipes.
+/// How many lines of a certificate come before the listed recipes.
 const HEAD_LINES: u64 = 3;
 
 /// Appends the cost of a match, or the floor.
@@ -26,9 +26,9 @@ fn push_cost(text: &mut Vec<u8>, claim: &Claim, cost: Option<u64>) -> Result<(),
     }
 }
 
-/// The summary of a search for the job of a number: what it found with how many boxes judged, what
-/// a match costs, how many recipes are listed, how many lines the text of the certificate has, and
-/// that the certificate was accepted.
+/// The summary of a search for the job with a number: what it found, how many boxes it judged, the
+/// cost of a match or the floor, how many recipes are listed, how many lines the text of the
+/// certificate has, and that the certificate was accepted.
 #[tactic(auto, unfolding(crate::specs::Outcomes::demo_text))]
 pub fn demo_text(
     alloc: Global,

@@ -1,6 +1,6 @@
-//! What the program prints: the texts of a recipe, of what a search found and of what a check
-//! accepted, the text of each refusal as a function of the refusal, and the call that puts it
-//! into a sink.
+//! What the program prints: the texts of a recipe, of the result of a search and of an accepted
+//! certificate, the text of each refusal as a function of the refusal, and the call that puts the
+//! text of a refusal into a sink.
 #![tactic(auto)]
 
 mod claims;

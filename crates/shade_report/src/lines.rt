@@ -28,7 +28,7 @@ pub(crate) fn push_line(text: &mut Vec<u8>, word: &str, count: u64) -> Result<()
     Ok(())
 }
 
-/// Appends a word and a number that is counted in its last decimal.
+/// Appends a word and a number that is given in units of its last decimal place.
 pub(crate) fn push_fixed(
     text: &mut Vec<u8>,
     word: &str,

@@ -36,7 +36,7 @@ fn push_found(
     }
 }
 
-/// Appends numbers with a comma between.
+/// Appends numbers with commas between them.
 fn push_commas(text: &mut Vec<u8>, numbers: &[u16]) -> Result<(), AllocError>
     ensures { OnOk result (text.new.items ≡ text.old.items ++ commas_text numbers.now) }
 {
@@ -74,7 +74,7 @@ fn push_undecided(text: &mut Vec<u8>, undecided: &[Shown]) -> Result<(), AllocEr
     Ok(())
 }
 
-/// The report of a search that judged so many boxes: what it found, the recipe of a match or the
+/// The report of a search: what it found, how many boxes it judged, the recipe of a match or the
 /// floor, and the undecided recipes with their differences.
 #[tactic(auto, unfolding(crate::specs::Outcomes::outcome_text))]
 pub fn outcome_text(

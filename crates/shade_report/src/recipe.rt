@@ -23,7 +23,7 @@ pub fn verdict_name(verdict: Verdict) -> &'static str
     }
 }
 
-/// Appends the line of a dye of which there are so many steps, for a load in kilograms.
+/// Appends the line of a dye with its number of steps, for a load in kilograms.
 #[tactic(auto, unfolding(crate::specs::Recipes::dye_text))]
 fn push_dye(text: &mut Vec<u8>, dye: &JobDye, steps: u16, load: u32) -> Result<(), AllocError>
     requires step { dye.now.step ≤ 20000 }
@@ -40,7 +40,7 @@ fn push_dye(text: &mut Vec<u8>, dye: &JobDye, steps: u16, load: u32) -> Result<(
     Ok(())
 }
 
-/// Appends the line of the light of a number.
+/// Appends the line of the light with a number: the difference, and the verdict on it.
 #[tactic(auto, unfolding(crate::specs::Recipes::light_text))]
 fn push_light(
     text: &mut Vec<u8>,

@@ -1,4 +1,4 @@
-//! Why a command has no report.
+//! The refusals of commands, and their texts.
 
 ghost use Rattle.std.specs.Prelude.{◌≡◌, ◌≤◌, ◌+◌, ◌++◌, length};
 ghost use Rattle.arrayvec.specs.ArrayVec.{array_vec_len};
@@ -25,23 +25,24 @@ pub enum Refusal<'a> {
     Unreadable(&'a str),
     /// This file has more bytes than its limit.
     TooLong(&'a str),
-    /// This file of curves or weights breaks a rule of tables.
+    /// This curve file or weights file breaks a rule of tables.
     Table(&'a str, TableFault),
-    /// This file of a job breaks a rule of jobs.
+    /// This job file breaks a rule of jobs.
     Job(&'a str, JobFault),
     /// This file has no column of this name.
     NoColumn(&'a str, &'a str),
-    /// The steps are no recipe of the grid, or a recipe that breaks this limit.
+    /// The steps are no recipe of the grid, or are a recipe that breaks this limit.
     Steps(Option<LimitNo>),
     /// The certificate could not be written into this file.
     NotWritten(&'a str),
     /// The text of the certificate breaks a rule of its grammar.
     CertGrammar(CertFault),
-    /// This line of the certificate, from 1, does not hold, and why.
+    /// This line of the certificate, counted from 1, does not hold, for this reason.
     CertWrong(u32, Why),
 }
 
-/// Puts the text of a refusal into the sink. It takes no memory, and fails only where a put failed.
+/// Puts the text of a refusal into the sink. It allocates no memory, and fails only where a put
+/// failed.
 pub fn put_refusal<O: Sink>(out: &mut O, refusal: &Refusal) -> Result<(), Failed>
     ensures { Puts (refusal_text refusal.now) result (O.view out.old) (O.view out.new) }
 {
@@ -91,7 +92,7 @@ fn fault_text(fault: TableFault) -> ArrayVec<u8, 128>
     text
 }
 
-/// The part and the rule of a job's fault.
+/// The part of the job, the numbers of the item and of its dyeing, and the rule of a job's fault.
 fn job_fault_text(fault: JobFault) -> ArrayVec<u8, 128>
     ensures { result.items ≡ job_fault_text fault }
 {
@@ -106,7 +107,7 @@ fn job_fault_text(fault: JobFault) -> ArrayVec<u8, 128>
     text
 }
 
-/// Puts the refusal of a file and why it is refused.
+/// Puts the refusal of a file, with the reason.
 fn put_refused<O: Sink>(out: &mut O, name: &str, why: &[u8]) -> Result<(), Failed>
     ensures { Puts (refused_text name.now why.now) result (O.view out.old) (O.view out.new) }
 {

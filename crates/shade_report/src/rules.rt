@@ -76,7 +76,7 @@ pub(crate) fn cert_rule_name(rule: CertRule) -> &'static str
     }
 }
 
-/// The name of why a line of a certificate does not hold.
+/// The name of the reason why a line of a certificate does not hold.
 pub(crate) fn why_name(why: Why) -> &'static str
     ensures { result.now ≡ why_name why }
 {

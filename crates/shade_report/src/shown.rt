@@ -1,4 +1,4 @@
-//! One recipe with its values.
+//! A recipe with the values that a report shows of it.
 
 ghost use Rattle.std.specs.Prelude.{◌≡◌, length};
 
@@ -7,7 +7,7 @@ use fix_bounds::Base;
 use metamerism::{Deltas, Verdict};
 use price_grid::Steps;
 
-/// A recipe with what a report shows of it.
+/// A recipe with the values that a report shows of it.
 #[derive(Drop)]
 pub struct Shown {
     /// The steps of each dye, in the order of the job.

@@ -1,4 +1,4 @@
-//! Judging the boxes of a job, and the search over them.
+//! Times the judging of the boxes of a job, and the search over them.
 
 ghost use Rattle.std.specs.Prelude.{◌≡◌, ◌≤◌, All, IfSome, length, vec_len};
 ghost use Rattle.box_specs.specs.Span.{IsBox, IsInside};
@@ -14,7 +14,7 @@ use std::rt::{Clock, Files};
 use std::time::Instant;
 use std::{fs, io};
 
-/// How often a box is split at most.
+/// How many times in a row a box is split at most.
 const DEPTH: u32 = 12;
 
 /// How many boxes a search may judge.
@@ -30,7 +30,7 @@ struct Kinds {
 }
 
 impl Kinds {
-    /// Counts one more.
+    /// Counts one more judged box.
     fn count(&mut self, judged: Judged) {
         let kind = match judged {
             Judged::Limit(_) => &mut self.limit,
@@ -62,13 +62,13 @@ fn weights_of<R: Files + AllocGlobal>(rt: &R, lights: &[JobLight]) -> Option<Vec
     for light in lights {
         let text = short_file(rt, light.weights.as_str())?;
         let weights = read_weights(rt.alloc(), text.as_slice()).ok()?;
-        let _ = weights.waves(); // called for its contract alone: what weights keep
+        let _ = weights.waves(); // called only for its contract: the invariant of weights
         list.push(weights).ok()?;
     }
     Some(list)
 }
 
-/// The job of a file, with its tables.
+/// The job in a file, resolved over its tables.
 fn resolved_from<R: Files + AllocGlobal>(rt: &R, name: &str) -> Option<Resolved> {
     let alloc = rt.alloc();
     let text = short_file(rt, name)?;
@@ -76,7 +76,7 @@ fn resolved_from<R: Files + AllocGlobal>(rt: &R, name: &str) -> Option<Resolved>
     let text = short_file(rt, job.curves.as_str())?;
     let book = read_curves(alloc, text.as_slice()).ok()?;
     let weights = weights_of(rt, job.light.as_slice())?;
-    let _ = book.find(""); // called for its contract alone: what a book keeps
+    let _ = book.find(""); // called only for its contract: the invariant of a book
     resolve(alloc, job, &book, weights).ok()
 }
 
@@ -96,7 +96,7 @@ fn walk(land: &RecipeLand, part: &BoxR, depth: u32, kinds: &mut Kinds, meter: &m
     }
 }
 
-/// Times walks over the boxes of a job: the least time of `rounds`, by the boxes of a walk.
+/// Times walks over the boxes of a job: prints the least time per box of `rounds` walks.
 fn time_judging<R: Clock + Print>(rt: &R, land: &RecipeLand, rounds: u32) -> io::Result<()> {
     let mut least = u128::MAX;
     let mut kinds = Kinds::default();
@@ -112,7 +112,7 @@ fn time_judging<R: Clock + Print>(rt: &R, land: &RecipeLand, rounds: u32) -> io:
     println!(rt; "judge {least} ({kinds:?})")
 }
 
-/// Times searches: the least time of `rounds`, by the boxes of a search.
+/// Times searches: prints the least time per box of `rounds` searches.
 fn time_search<R: Clock + Print + AllocGlobal>(
     rt: &R,
     land: &RecipeLand,

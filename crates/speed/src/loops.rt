@@ -1,5 +1,5 @@
-//! A loop for each operation. The sum of the results' ends is printed, so that no call can be left
-//! out.
+//! A loop for each operation. The sum of the results' ends is printed, so that the compiler cannot
+//! leave out a call.
 ghost use Rattle.std.specs.Prelude.{ℕ, ◌^◌, ◌≤◌};
 
 use crate::pairs::Pair;
@@ -71,7 +71,7 @@ macro_rules! rounds {
     }};
 }
 
-// the same of the K/S of each pair
+// the same with the K/S of each pair
 macro_rules! strength_rounds {
     ($pairs:ident, $rounds:ident, $strength:ident, $call:expr) => {{
         let mut sum = 0i128;
@@ -86,7 +86,7 @@ macro_rules! strength_rounds {
     }};
 }
 
-// the same of a number: the lower end of the first interval
+// the same with a number: the lower end of the first interval of each pair
 macro_rules! number_rounds {
     ($pairs:ident, $rounds:ident, $low:ident, $call:expr) => {{
         let mut sum = 0i128;

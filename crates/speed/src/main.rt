@@ -1,6 +1,7 @@
 //! Times the operations on intervals at both scales: `speed ROUNDS` prints, for each operation, the
-//! nanoseconds that a thousand calls take at the base scale and at the quick one. `speed ROUNDS JOB`
-//! prints the nanoseconds that a box of the job in a file takes to be judged, and in a search.
+//! nanoseconds that a thousand calls take at the base scale and at the quick one. For the job in
+//! the file JOB, `speed ROUNDS JOB` prints the nanoseconds that a box takes to be judged by itself,
+//! and in a search.
 #![tactic(auto)]
 
 mod boxes;
@@ -12,7 +13,7 @@ use std::rt::{Clock, Env};
 use std::time::Instant;
 use std::{env, io};
 
-/// The number of rounds that the first word gives, if there is one, and the second word.
+/// The number of rounds, if the first word is a number, and the second word, if there is one.
 fn words_of<R: Env + AllocGlobal>(rt: &R) -> io::Result<(Option<u32>, Option<String>)> {
     let mut words = env::args(rt)?.skip(1);
     match words.next() {

@@ -7,8 +7,8 @@ use std::alloc::{AllocError, Global};
 /// How many pairs are drawn.
 const COUNT: u32 = 1000;
 
-/// Two intervals above 0 and of a few units at most, for the two sides of an operation, and the K/S
-/// of a colour.
+/// Two intervals above 0 and up to a few units, as the operands of an operation, and the K/S of a
+/// colour.
 #[derive(Drop)]
 pub(crate) struct Pair<S: Scale> {
     pub(crate) first: Iv<S>,
@@ -21,7 +21,8 @@ pub(crate) struct Pair<S: Scale> {
     ghost strength_range: { UpTo (31 * S.unit) strength },
 }
 
-/// An interval from the bits of `state`: its lower end between 0 and 1, and up to seven parts wide.
+/// An interval from the bits of `state`: its lower end is between 0 and 1, and its width is at most
+/// seven parts of the scale.
 fn interval<S: Scale>(state: u64) -> Iv<S>
     ensures range { UpTo (2 ^ 41) result }
     ensures magnitude { result.hi ≤ℤ pos (10 * S.unit) }
@@ -32,7 +33,8 @@ fn interval<S: Scale>(state: u64) -> Iv<S>
     Iv::of_ends(i128::from(low), i128::from(high))
 }
 
-/// A K/S from the bits of `state`: its lower end between 0 and 30, and up to seven parts wide.
+/// A K/S from the bits of `state`: its lower end is between 0 and 30, and its width is at most
+/// seven parts of the scale.
 fn strength<S: Scale>(state: u64) -> Iv<S>
     ensures { UpTo (31 * S.unit) result }
 {

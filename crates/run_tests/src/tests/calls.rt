@@ -4,7 +4,7 @@ use std::alloc::Global;
 use std::process::Abort;
 use std::test::Fail;
 
-/// The status, and the text that the sink took.
+/// Calls `run`, and returns the status and the text that the sink took.
 pub(crate) fn call(
     rt: &impl Abort,
     alloc: Global,
@@ -21,7 +21,7 @@ pub(crate) fn call(
     Ok(format!(in alloc; "{status} {text}")?)
 }
 
-/// The same over these files, where no call fails.
+/// The same over these files, where no call of the shelf or the sink fails.
 pub(crate) fn answer(
     rt: &impl Abort,
     alloc: Global,

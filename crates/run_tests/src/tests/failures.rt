@@ -7,8 +7,8 @@ use std::alloc::Global;
 use std::process::Abort;
 use std::test::Fail;
 
-/// The answer of `ks flat.csv p50` where the shelf's and the sink's calls of these numbers fail.
-/// The file stays as it was.
+/// The status and text of `ks flat.csv p50` where the calls of the shelf and of the sink with these
+/// numbers fail. The file must not change.
 fn ks_under_faults(
     rt: &impl Abort,
     alloc: Global,
@@ -51,7 +51,7 @@ fn answers_after_a_fault(rt: HostRuntime) -> Result<(), Fail> {
         (1, 2, 0, 4, "unreadable flat"),
         (1, 3, 0, 4, "unreadable flat.csv"),
         (1, 4, 0, 2, unreadable),
-        // reads that come a byte at a time
+        // reads that return one byte at a time
         (0, 9, 1, 0, all.as_str()),
         (100, 9, 1, 2, unreadable),
     ] {

@@ -3,7 +3,7 @@ use std::alloc::{AllocError, Global};
 /// The header of the file of flat curves.
 pub(crate) const FLAT_HEADER: &str = "nm,p100,p50,p30,p12,p6,p08,p001";
 
-/// Its values at each wavelength.
+/// The values of the flat curves at each wavelength.
 pub(crate) const FLAT_VALUES: &str = "100,50,30,12.5,6.4,0.8,0.01";
 
 /// The header of a weights file.
@@ -37,8 +37,7 @@ pub(crate) fn table(
     Ok(text)
 }
 
-/// The file of flat curves under another header, with other values at 400 nm, up to a last
-/// wavelength.
+/// The file of flat curves with another header and other values at 400 nm, up to a last wavelength.
 pub(crate) fn flat_like(
     alloc: Global,
     header: &str,

@@ -8,7 +8,7 @@ use std::alloc::Global;
 use std::process::Abort;
 use std::test::Fail;
 
-/// Asserts what `check j.toml j.cert` answers to a job and the lines of a certificate.
+/// Asserts the result of `check j.toml j.cert` for a job and the lines of a certificate.
 fn assert_check(
     rt: &impl Abort,
     alloc: Global,
@@ -32,7 +32,7 @@ fn assert_check(
     assert_answers(rt, alloc, &files, &[("check j.toml j.cert", want.as_str())])
 }
 
-// Two equal dyes at one price, and a dye that does not decide.
+// A job with two equal dyes at one price, and a job with an undecided recipe.
 #[test]
 fn refuses_certificates(rt: HostRuntime) -> Result<(), Fail> {
     let alloc = rt.alloc();

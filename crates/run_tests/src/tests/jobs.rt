@@ -11,7 +11,7 @@ pub(crate) const TOP: &str = "curves = \"flat.csv\"\nstandard = \"p30\"\n";
 
 pub(crate) const LIGHT: &str = "[[light]]\nweights = \"w.csv\"\ntolerance = 10\n";
 
-/// The lines of a dye of one dyeing.
+/// The lines of a job for a dye with one dyeing.
 fn dye(alloc: Global, name: &str, price: &str, curve: &str) -> Result<String, AllocError> {
     format!(in alloc;
         "[[dye]]\nname = \"{name}\"\nprice = {price}\nstep = 10\nmost = 1\n\
@@ -19,7 +19,7 @@ fn dye(alloc: Global, name: &str, price: &str, curve: &str) -> Result<String, Al
     )
 }
 
-/// A job on p50 with two dyes: U of this price and curve, and V of this price on p30.
+/// A job on p50 with two dyes: U with this price and curve, and V with this price and curve p30.
 pub(crate) fn job(
     alloc: Global,
     top: &str,
@@ -33,7 +33,7 @@ pub(crate) fn job(
     format!(in alloc; "version = 1\nsubstrate = \"p50\"\n{top}{lights}{first}{second}{end}")
 }
 
-/// The status, and the last line of an answer.
+/// The status and the last line of an answer.
 fn end_of<'a>(text: &'a str) -> (&'a str, &'a str) {
     let status = text.split_once(' ').unwrap_or((text, "")).0;
     let body = text.strip_suffix('\n').unwrap_or(text);
@@ -68,14 +68,14 @@ fn shows_recipes(rt: HostRuntime) -> Result<(), Fail> {
         ("show b.toml 0,1,0", "11 steps refused\n"),
         ("show b.toml 0;1", "11 steps refused\n"),
         ("show b.toml ", "11 steps refused\n"),
-        // an addition to a bath in which dye U stands at its most
+        // an addition to a bath that has the most steps of dye U
         ("show e.toml 0,1", MATCH),
         ("show e.toml 1,0", "11 steps refused limit 1\n"),
     ];
     assert_answers(&rt, alloc, &files, &rows)?;
     let none = answer(&rt, alloc, &["show", "b.toml", "0,0"], &files)?;
     assert_eq!(rt; end_of(none.as_str()), ("8", "fail"));
-    // the differences were computed elsewhere, in floating point: 5.957657 and 3.154990
+    // another program computed the differences in floating point: 5.957657 and 3.154990
     assert!(rt; none.as_str().contains("light 1 DE 5.95765"));
     let both = answer(&rt, alloc, &["show", "b.toml", "1,1"], &files)?;
     assert!(rt; both.as_str().contains("light 1 DE 3.1549"));
@@ -112,7 +112,7 @@ fn names_limits(rt: HostRuntime) -> Result<(), Fail> {
     Ok(())
 }
 
-// U dyes half of the wavelengths alone, which the second light shows.
+// U dyes only half of the wavelengths; the second light has weights only at the other half.
 #[test]
 fn judges_under_two_lights(rt: HostRuntime) -> Result<(), Fail> {
     let alloc = rt.alloc();
@@ -158,7 +158,7 @@ fn faults_of_jobs(rt: HostRuntime) -> Result<(), Fail> {
     Ok(())
 }
 
-/// Puts a file on a shelf, where there is one.
+/// Puts a file on a shelf, if there is one.
 fn put(shelf: &mut MemShelf, name: &str, bytes: Option<&[u8]>) -> Result<(), Fail> {
     if let Some(bytes) = bytes {
         shelf.put_file(name, bytes)?;
@@ -166,7 +166,7 @@ fn put(shelf: &mut MemShelf, name: &str, bytes: Option<&[u8]>) -> Result<(), Fai
     Ok(())
 }
 
-/// Asserts what `show b.toml 9` answers over a job, curves and weights.
+/// Asserts the status and text of `show b.toml 9` over a job, curves and weights.
 fn assert_show(
     rt: &impl Abort,
     job: Option<&[u8]>,
@@ -186,7 +186,7 @@ fn assert_show(
 }
 
 // The job is judged by itself before any other file is read; all other files are read before any
-// of them is judged; and the steps are looked at last.
+// of them is judged; and the steps are judged last.
 #[test]
 fn order_of_faults(rt: HostRuntime) -> Result<(), Fail> {
     let alloc = rt.alloc();

@@ -1,4 +1,4 @@
-//! Words of no form, and files that are refused.
+//! Words that have no listed form, and files that are refused.
 
 use super::calls::{answer, assert_answers};
 use super::files::{

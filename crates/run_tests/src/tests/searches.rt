@@ -8,7 +8,7 @@ use std::alloc::{AllocError, Global};
 use std::process::Abort;
 use std::test::Fail;
 
-/// A job with one dye R on p50: the rest of its top, the tolerance of its light, and its dye.
+/// A job on p50 with one dye: the rest of its head, the tolerance of its light, and its dye.
 pub(crate) fn solo(
     alloc: Global,
     top: &str,
@@ -70,7 +70,8 @@ const MATCH: &str = "dye U steps 0 percent 0.000 grams 0.00\n\
 
 const MATCH_CERT: &str = "dye-cert 1\nmatch 0 1\nundecided 0\ns 1 0\ns 2 0\nf 1\np\nd\n";
 
-// One dye: the undyed cloth matches; no recipe does; and one that does not decide.
+// Jobs with one dye: one that the undyed cloth matches, one with no match, and one with an
+// undecided recipe.
 #[test]
 fn searches_one_dye(rt: HostRuntime) -> Result<(), Fail> {
     let alloc = rt.alloc();
@@ -117,7 +118,7 @@ fn searches_one_dye(rt: HostRuntime) -> Result<(), Fail> {
     )
 }
 
-// Two equal dyes at one price, within budgets; and a correction of a batch.
+// Two equal dyes at one price, with several budgets; and a correction of a batch.
 #[test]
 fn searches_two_dyes(rt: HostRuntime) -> Result<(), Fail> {
     let alloc = rt.alloc();
@@ -219,7 +220,8 @@ fn searches_under_two_lights(rt: HostRuntime) -> Result<(), Fail> {
     Ok(())
 }
 
-// Certificates of the job with two equal dyes, each with a line of the right one changed.
+// Certificates for the job with two equal dyes: the one that a search writes, and others with
+// changed lines.
 #[test]
 fn checks_certificates(rt: HostRuntime) -> Result<(), Fail> {
     let alloc = rt.alloc();
@@ -259,8 +261,8 @@ fn checks_certificates(rt: HostRuntime) -> Result<(), Fail> {
     Ok(())
 }
 
-/// What `predict a.toml a.cert` answers where the shelf's call of a number fails, and what the
-/// certificate's name then holds.
+/// Asserts the status and text of `predict a.toml a.cert` where the shelf's call with a number
+/// fails, and the contents of the certificate file after it.
 fn predict_under_fault(
     rt: &impl Abort,
     alloc: Global,
@@ -279,7 +281,7 @@ fn predict_under_fault(
     Ok(())
 }
 
-// Two reads of each file, then the certificate is created and appended.
+// Each file takes two reads; then the certificate is created, and its text appended.
 #[test]
 fn predicts_under_faults(rt: HostRuntime) -> Result<(), Fail> {
     let alloc = rt.alloc();
@@ -306,8 +308,8 @@ fn predicts_under_faults(rt: HostRuntime) -> Result<(), Fail> {
     Ok(())
 }
 
-// A job of six dyes, made of a number. The cost, and how many boxes and lines there are, were
-// computed elsewhere.
+// A job of six dyes, generated from a number. Another program computed the cost and the numbers of
+// boxes and lines.
 #[test]
 fn summarises_a_generated_job(rt: HostRuntime) -> Result<(), Fail> {
     let alloc = rt.alloc();

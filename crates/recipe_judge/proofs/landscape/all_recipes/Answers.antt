@@ -1,7 +1,7 @@
 use Rattle.std.proofs.Common.{◌≡◌, ◌∙◌, ap, sym, map, take}
 use Rattle.std.proofs.lemmas.List.{take_all}
 use Rattle.price_grid.specs.declared.dye_cost.DyeCost.{DyeCost}
-use Rattle.recipe_judge.proofs.Within.{all_has_dyes, all_is_box}
+use Rattle.recipe_judge.proofs.GridBoxes.{all_has_dyes, all_is_box}
 use Rattle.recipe_judge.proofs.landscape.all_recipes.Goals as goal
 
 pub invariant_of-result : goal.invariant_of-result

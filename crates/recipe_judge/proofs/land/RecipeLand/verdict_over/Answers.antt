@@ -8,7 +8,7 @@ use Rattle.recipe_judge.specs.Land.{KeepsLand}
 use Rattle.recipe_judge.specs.Recipes.{all_recipes, failing_light, recipe_land}
 use Rattle.recipe_judge.proofs.Kept.{kept_verdict}
 use Rattle.recipe_judge.proofs.Lawful.{light_is}
-use Rattle.recipe_judge.proofs.Within.{high_recipe}
+use Rattle.recipe_judge.proofs.GridBoxes.{high_recipe}
 use Rattle.recipe_judge.proofs.land.RecipeLand.verdict_over.Goals as goal
 
 pub spectrum_over-sample-requires-clause-recipe : goal.spectrum_over-sample-requires-clause-recipe

@@ -1,7 +1,7 @@
 use Rattle.std.proofs.Common.{sym, subst}
 use Rattle.box_specs.specs.Span.{IsInside, Span}
 use Rattle.recipe_judge.specs.Recipes.{all_recipes}
-use Rattle.recipe_judge.proofs.Within.{high_recipe, low_recipe}
+use Rattle.recipe_judge.proofs.GridBoxes.{high_recipe, low_recipe}
 use Rattle.recipe_judge.proofs.landscape.RecipeLandLandscape.excludes.Goals as goal
 
 pub excludes-requires-clause-low : goal.excludes-requires-clause-low

@@ -10,7 +10,7 @@ use Rattle.recipe_judge.specs.Recipes.{all_recipes, light_fails, recipe_land}
 use Rattle.recipe_judge.proofs.Kept.{kept_deltas, kept_lights}
 use Rattle.recipe_judge.proofs.Lawful.{no_such_light}
 use Rattle.recipe_judge.proofs.LightTurns.{light_fails_is, read_map}
-use Rattle.recipe_judge.proofs.Within.{high_recipe}
+use Rattle.recipe_judge.proofs.GridBoxes.{high_recipe}
 use Rattle.recipe_judge.proofs.landscape.RecipeLandLandscape.fails.Goals as goal
 use Rattle.recipe_judge.proofs.landscape.RecipeLandLandscape.fails.Goals.{then-light-eq0-via-then-light-eq0, then-light-eq0-via-else-light-eq0+then-light-count}
 

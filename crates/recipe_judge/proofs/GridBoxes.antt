@@ -11,7 +11,7 @@ use Rattle.price_grid.specs.declared.dye_cost.DyeCost.{DyeCost}
 use Rattle.price_grid.specs.Grid.{IsGrid, IsRecipe, IsUpTo}
 use Rattle.recipe_judge.specs.Recipes.{all_recipes}
 
--- in the order of three lists of steps
+-- the order of lists of steps is transitive
 pub up_to_last : (a b c : List ℕ) → IsUpTo a b → IsUpTo b c → IsUpTo a c
 up_to_last [] [] c h g = g
 up_to_last [] (y ∷ b) c h g = absurd h
@@ -19,35 +19,35 @@ up_to_last (x ∷ a) [] c h g = absurd h
 up_to_last (x ∷ a) (y ∷ b) [] h g = absurd g
 up_to_last (x ∷ a) (y ∷ b) (z ∷ c) h g = (omega (arith, h.0, g.0), up_to_last a b c h.1 g.1)
 
--- steps up to the most of each dye are a recipe
-pub recipe_within : (grid : List DyeCost) (steps : List ℕ) → IsUpTo steps (map (λ dye. dye.most) grid) → IsRecipe grid steps
-recipe_within [] [] h = tt
-recipe_within [] (n ∷ steps) h = absurd h
-recipe_within (dye ∷ grid) [] h = absurd h
-recipe_within (dye ∷ grid) (n ∷ steps) h = (h.0, recipe_within grid steps h.1)
+-- a list of at most the most steps of each dye is a recipe
+pub up_to_most_is_recipe : (grid : List DyeCost) (steps : List ℕ) → IsUpTo steps (map (λ dye. dye.most) grid) → IsRecipe grid steps
+up_to_most_is_recipe [] [] h = tt
+up_to_most_is_recipe [] (n ∷ steps) h = absurd h
+up_to_most_is_recipe (dye ∷ grid) [] h = absurd h
+up_to_most_is_recipe (dye ∷ grid) (n ∷ steps) h = (h.0, up_to_most_is_recipe grid steps h.1)
 
--- fewer steps of each dye than a recipe has are a recipe
-pub within_recipe : (grid : List DyeCost) (few many : List ℕ) → IsUpTo few many → IsRecipe grid many → IsRecipe grid few
-within_recipe [] [] many h g = tt
-within_recipe [] (n ∷ few) [] h g = absurd h
-within_recipe [] (n ∷ few) (m ∷ many) h g = absurd g
-within_recipe (dye ∷ grid) [] [] h g = absurd g
-within_recipe (dye ∷ grid) [] (m ∷ many) h g = absurd h
-within_recipe (dye ∷ grid) (n ∷ few) [] h g = absurd h
-within_recipe (dye ∷ grid) (n ∷ few) (m ∷ many) h g = (omega (arith, h.0, g.0), within_recipe grid few many h.1 g.1)
+-- a list of at most as many steps of each dye as a recipe has is a recipe
+pub fewer_is_recipe : (grid : List DyeCost) (few many : List ℕ) → IsUpTo few many → IsRecipe grid many → IsRecipe grid few
+fewer_is_recipe [] [] many h g = tt
+fewer_is_recipe [] (n ∷ few) [] h g = absurd h
+fewer_is_recipe [] (n ∷ few) (m ∷ many) h g = absurd g
+fewer_is_recipe (dye ∷ grid) [] [] h g = absurd g
+fewer_is_recipe (dye ∷ grid) [] (m ∷ many) h g = absurd h
+fewer_is_recipe (dye ∷ grid) (n ∷ few) [] h g = absurd h
+fewer_is_recipe (dye ∷ grid) (n ∷ few) (m ∷ many) h g = (omega (arith, h.0, g.0), fewer_is_recipe grid few many h.1 g.1)
 
 -- the corners of a box of recipes are recipes
 pub high_recipe : (grid : List DyeCost) (b : Span) → IsInside b (all_recipes grid) → IsRecipe grid b.hi
-high_recipe grid b h = recipe_within grid b.hi h.1
+high_recipe grid b h = up_to_most_is_recipe grid b.hi h.1
 
 pub low_recipe : (grid : List DyeCost) (b : Span) → IsBox b → IsInside b (all_recipes grid) → IsRecipe grid b.lo
-low_recipe grid b box h = recipe_within grid b.lo (up_to_last b.lo b.hi (all_recipes grid).hi box h.1)
+low_recipe grid b box h = up_to_most_is_recipe grid b.lo (up_to_last b.lo b.hi (all_recipes grid).hi box h.1)
 
--- and so is each recipe in it
+-- each list of steps in a box of recipes is a recipe
 pub inner_recipe : (grid : List DyeCost) (b : Span) (steps : List ℕ) → IsInside b (all_recipes grid) → IsWithin steps b → IsRecipe grid steps
-inner_recipe grid b steps h w = recipe_within grid steps (up_to_last steps b.hi (all_recipes grid).hi w.1 h.1)
+inner_recipe grid b steps h w = up_to_most_is_recipe grid steps (up_to_last steps b.hi (all_recipes grid).hi w.1 h.1)
 
--- the box of all recipes is one
+-- the box of all recipes is a box
 pub all_is_box : (grid : List DyeCost) → IsBox (all_recipes grid)
 all_is_box [] = tt
 all_is_box (dye ∷ grid) = (omega arith, all_is_box grid)
@@ -62,7 +62,7 @@ all_has_dyes grid kept =
     let dyes : length {A = ℕ} (map (λ dye. 0) grid) ≡ length grid = length-map grid (λ dye. 0) in
     (omega (arith, dyes, kept.some), omega (arith, dyes, kept.few))
 
--- portions of a box within those of a wider one
+-- the portions of a box are within those of a wider box
 pub portions_within : (dyes : List DyeData) (low high low' high' : List ℕ) → IsUpTo low low' → IsUpTo low' high' → IsUpTo high' high
     → AllZip mixing.IsWithin (portions dyes low high) (portions dyes low' high')
 unfolding portions
