@@ -24,7 +24,7 @@ use shade_report::Refusal;
 use shelf_io::Shelf;
 use std::alloc::Global;
 
-/// How many bytes a file of a certificate may have.
+/// How many bytes a certificate file may have.
 const CERT_LIMIT: u64 = 64_000_000;
 
 /// The tables of a job, and the text of a certificate.

@@ -25,7 +25,7 @@ use shelf_io::Shelf;
 use spectral_tables::{CurveBook, Weights};
 use std::alloc::Global;
 
-/// How many bytes a file of a job may have.
+/// How many bytes a job file may have.
 pub(crate) const JOB_LIMIT: u64 = 1_000_000;
 
 /// The curves of a job, and the weights of its lights in their order.

@@ -12,7 +12,7 @@ use shade_report::Refusal;
 use spectral_tables::{Curve, CurveBook, TableError, Weights, read_curves, read_weights};
 use std::alloc::Global;
 
-/// How many bytes a file of curves or weights may have.
+/// How many bytes a curve file or a weights file may have.
 pub(crate) const TABLE_LIMIT: u64 = 1_000_000;
 
 /// The curves of one file, and the weights of another.

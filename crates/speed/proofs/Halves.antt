@@ -1,4 +1,4 @@
--- The halves of a box lie where the box lies.
+-- The halves of a box are boxes, and are inside every box that the box is inside.
 use Rattle.std.proofs.Common.{◌≡◌, ℕ, List, [], ◌∷◌, false, sym, subst, arith}
 use Rattle.price_grid.specs.Grid.{IsUpTo}
 use Rattle.box_specs.specs.Span.{IsBox, IsInside, Span, is_single}
@@ -36,6 +36,6 @@ lower_box b c box more e = subst IsBox (sym e) (lower_is_box b (cut_of b) box (c
 pub upper_box : (b c : Span) → IsBox b → is_single b ≡ false → c ≡ upper_half b (cut_of b) → IsBox c
 upper_box b c box more e = subst IsBox (sym e) (upper_is_box b (cut_of b) box (cut_fits b box more))
 
--- a box lies in itself
+-- a box is inside itself
 pub inside_itself : (b c : Span) → b ≡ c → IsInside b c
 inside_itself b c e = subst (IsInside b) e (up_to_itself b.lo, up_to_itself b.hi)
