@@ -19,16 +19,31 @@ use Rattle.box_specs.specs.Tree.{Spot, Tree, count, fork, is_needed, leaf, need,
 use Rattle.box_specs.specs.Validity.{corners, is_listed, is_pass_line, is_undecided_line}
 use Rattle.box_specs.proofs.Answers.{never_before_itself}
 use Rattle.box_specs.proofs.Cuts.{not_both as not_both_halves}
-use Rattle.box_search.specs.Frontier.{IsAt, IsCovered, IsOpen, State, done_in, is_done, with_entry, with_halves, without}
-use Rattle.box_search.proofs.Frontier.{IsChild, Turned, entry_cases, none_some, part_trans, same_part, some_same, spot_same, without_cases}
-use Rattle.box_search.proofs.Orders.{before_by_key, before_on, by, first, key_not_before, not_after, not_both, not_deeper, not_itself, on_before, spots_are_ordered, tied_keys}
-use Rattle.box_search.proofs.Ranks.{alike, at_tree, below_after, ge_test, judged_above, lt_test, not_false, not_true, whole}
-use Rattle.box_search.proofs.Trees.{IsTree, corner_within, count_le, count_lt, halved, inside_itself, part_root, whole_root}
+use Rattle.box_search.specs.Frontier.{IsAt, IsCovered, IsOpen, State, done_in, is_done, with_entry, without}
+use Rattle.box_search.proofs.Frontier.{IsChild, Turned, corner_in_box, entry_cases, equal_test, none_some, part_trans, same_part, some_same, spot_same, without_cases}
+use Rattle.box_search.proofs.Orders.{before_by_key, before_on, by, first, key_not_before, next_deeper, not_after, not_both, not_deeper, not_itself, on_before, spot_up, spots_are_ordered, tied_keys}
+use Rattle.box_search.proofs.Ranks.{alike, at_sound, at_tree, below_after, ge_test, judged_above, lt_test, not_false, not_true, whole}
+use Rattle.box_search.proofs.Trees.{IsSound, IsTree, corner_within, count_le, count_lt, halved, part_root, whole_root}
 use Rattle.box_search.proofs.Valid.{Found, answer, at_top, corner_in, first_is, found, line_match}
 use Rattle.box_search.proofs.Walks.{corners_are, mark, passing}
 
 pub equal_itself : (z : Spot) → is_eq (spot_cmp z z) ≡ true
 equal_itself z = ap is_eq (tied_itself spots_are_ordered z)
+
+-- both halves of a box wait
+abbrev pub with_halves : Land → ℕ → Span → (Spot → Option Span) → Spot → Option Span
+with_halves l d b f =
+    with_entry (spot_of l (d + 1) (lower_half b (cut_of b))) (lower_half b (cut_of b)) (with_entry (spot_of l (d + 1) (upper_half b (cut_of b))) (upper_half b (cut_of b)) f)
+
+-- the halves of a box have two places
+two_places : (l : Land) (d : ℕ) (b : Span) → IsSound l b → is_final l b ≡ false → is_eq (spot_cmp (spot_of l d (lower_half b (cut_of b))) (spot_of l d (upper_half b (cut_of b)))) ≡ false
+two_places l d b i h = by (is_eq (spot_cmp (spot_of l d (lower_half b (cut_of b))) (spot_of l d (upper_half b (cut_of b)))))
+    (λ x.
+    let corner : b.lo ≡ (upper_half b (cut_of b)).lo = ap (λ (q : Spot). q.key.steps) (spot_same (spot_of l d (lower_half b (cut_of b))) (spot_of l d (upper_half b (cut_of b))) x) in
+    let two = halved l b i h in
+    absurd (not_both_halves b (cut_of b) i.box two.cuts b.lo (corner_in_box l (lower_half b (cut_of b)) two.lower)
+    (subst (λ r. IsWithin r (upper_half b (cut_of b))) (sym corner) (corner_in_box l (upper_half b (cut_of b)) two.upper))))
+    (λ x. x)
 
 module _ (l : Land) (lawful : IsLawful l) where
   module _ (f : Spot → Option Span) (g : Spot → Option CertLine) (last : Option Spot) (n : ℕ) (listed : List (List ℕ)) (d : ℕ) where
@@ -69,10 +84,10 @@ module _ (l : Land) (lawful : IsLawful l) where
       high_part = inr (inr (part_root l t (d + 1)))
 
       new : (z : Spot) (c : Span) → with_halves l d b F z ≡ Some c → ((f z ≡ Some c) × (is_eq (spot_cmp (spot_of l d b) z) ≡ false)) ⊎ IsChild l lawful f (with_halves l d b F) g last n listed d (fork b s t) z c
-      new z c k = elim (entry_cases (spot_of l (d + 1) High) High (with_entry (spot_of l (d + 1) Low) Low F) z c k) as (λ _. ((f z ≡ Some c) × (is_eq (spot_cmp (spot_of l d b) z) ≡ false)) ⊎ IsChild l lawful f (with_halves l d b F) g last n listed d (fork b s t) z c) [
-        | inl x ↦ inr (recast (child t high_part z c (ap (spot_of l (d + 1)) i.3 ∙ x.0) (i.3 ∙ x.1)))
-        | inr y ↦ elim (entry_cases (spot_of l (d + 1) Low) Low F z c y) as (λ _. ((f z ≡ Some c) × (is_eq (spot_cmp (spot_of l d b) z) ≡ false)) ⊎ IsChild l lawful f (with_halves l d b F) g last n listed d (fork b s t) z c) [
-          | inl x ↦ inr (recast (child s low_part z c (ap (spot_of l (d + 1)) i.2 ∙ x.0) (i.2 ∙ x.1)))
+      new z c k = elim (entry_cases (spot_of l (d + 1) Low) Low (with_entry (spot_of l (d + 1) High) High F) z c k) as (λ _. ((f z ≡ Some c) × (is_eq (spot_cmp (spot_of l d b) z) ≡ false)) ⊎ IsChild l lawful f (with_halves l d b F) g last n listed d (fork b s t) z c) [
+        | inl x ↦ inr (recast (child s low_part z c (ap (spot_of l (d + 1)) i.2 ∙ x.0) (i.2 ∙ x.1)))
+        | inr y ↦ elim (entry_cases (spot_of l (d + 1) High) High F z c y) as (λ _. ((f z ≡ Some c) × (is_eq (spot_cmp (spot_of l d b) z) ≡ false)) ⊎ IsChild l lawful f (with_halves l d b F) g last n listed d (fork b s t) z c) [
+          | inl x ↦ inr (recast (child t high_part z c (ap (spot_of l (d + 1)) i.3 ∙ x.0) (i.3 ∙ x.1)))
           | inr w ↦
               let x = without_cases (spot_of l d b) f z c w in
               inl (x.1, x.0)
@@ -91,28 +106,19 @@ module _ (l : Land) (lawful : IsLawful l) where
           ap root (same_part l (tree_of l) 0 (d + 1) w a.part (whole l lawful) whole_w (subst (λ m. IsPart l (tree_of l) 0 m a.part) depth a.at) corner) ∙ a.box
 
       keeps : (z : Spot) (c : Span) → IsAt l z c → f z ≡ Some c → is_eq (spot_cmp (spot_of l d b) z) ≡ false → with_halves l d b F z ≡ Some c
-      keeps z c a k x = by (is_eq (spot_cmp (spot_of l (d + 1) High) z))
-          (λ y. ap (λ e. if e then Some High else with_entry (spot_of l (d + 1) Low) Low F z) y ∙ ap Some (sym i.3 ∙ same_half t high_part z c a (subst (λ m. is_eq (spot_cmp (spot_of l (d + 1) m) z) ≡ true) (sym i.3) y)))
-          (λ y. ap (λ e. if e then Some High else with_entry (spot_of l (d + 1) Low) Low F z) y ∙ by (is_eq (spot_cmp (spot_of l (d + 1) Low) z))
-          (λ w. ap (λ e. if e then Some Low else F z) w ∙ ap Some (sym i.2 ∙ same_half s low_part z c a (subst (λ m. is_eq (spot_cmp (spot_of l (d + 1) m) z) ≡ true) (sym i.2) w)))
-          (λ w. ap (λ e. if e then Some Low else F z) w ∙ ap (λ e. if e then None else f z) x ∙ k))
-
-      two_places : is_eq (spot_cmp (spot_of l (d + 1) High) (spot_of l (d + 1) Low)) ≡ false
-      two_places = by (is_eq (spot_cmp (spot_of l (d + 1) High) (spot_of l (d + 1) Low)))
-          (λ x.
-          let corner : High.lo ≡ Low.lo = ap (λ (q : Spot). q.key.steps) (spot_same (spot_of l (d + 1) High) (spot_of l (d + 1) Low) x) in
-          let two = halved l b i.0 i.1 in
-          absurd (not_both_halves b (cut_of b) i.0.box two.cuts Low.lo (corner_within l Low Low two.lower.box (inside_itself l Low))
-          (subst (λ r. IsWithin r High) corner (corner_within l High High two.upper.box (inside_itself l High)))))
-          (λ x. x)
+      keeps z c a k x = by (is_eq (spot_cmp (spot_of l (d + 1) Low) z))
+          (λ y. ap (λ e. if e then Some Low else with_entry (spot_of l (d + 1) High) High F z) y ∙ ap Some (sym i.2 ∙ same_half s low_part z c a (subst (λ m. is_eq (spot_cmp (spot_of l (d + 1) m) z) ≡ true) (sym i.2) y)))
+          (λ y. ap (λ e. if e then Some Low else with_entry (spot_of l (d + 1) High) High F z) y ∙ by (is_eq (spot_cmp (spot_of l (d + 1) High) z))
+          (λ w. ap (λ e. if e then Some High else F z) w ∙ ap Some (sym i.3 ∙ same_half t high_part z c a (subst (λ m. is_eq (spot_cmp (spot_of l (d + 1) m) z) ≡ true) (sym i.3) w)))
+          (λ w. ap (λ e. if e then Some High else F z) w ∙ ap (λ e. if e then None else f z) x ∙ k))
 
       low_waits : with_halves l d b F (spot_of l (d + 1) Low) ≡ Some Low
-      low_waits =
-          ap (λ e. if e then Some High else with_entry (spot_of l (d + 1) Low) Low F (spot_of l (d + 1) Low)) two_places
-          ∙ ap (λ e. if e then Some Low else F (spot_of l (d + 1) Low)) (equal_itself (spot_of l (d + 1) Low))
+      low_waits = ap (λ e. if e then Some Low else with_entry (spot_of l (d + 1) High) High F (spot_of l (d + 1) Low)) (equal_itself (spot_of l (d + 1) Low))
 
       high_waits : with_halves l d b F (spot_of l (d + 1) High) ≡ Some High
-      high_waits = ap (λ e. if e then Some High else with_entry (spot_of l (d + 1) Low) Low F (spot_of l (d + 1) High)) (equal_itself (spot_of l (d + 1) High))
+      high_waits =
+          ap (λ e. if e then Some Low else with_entry (spot_of l (d + 1) High) High F (spot_of l (d + 1) High)) (two_places l (d + 1) b i.0 i.1)
+          ∙ ap (λ e. if e then Some High else F (spot_of l (d + 1) High)) (equal_itself (spot_of l (d + 1) High))
 
       covered : (w : Tree) (e : ℕ) (v : Tree) → IsPart l (fork b s t) d (d + 1) w → IsPart l w (d + 1) e v → (c : Span) → root w ≡ c → with_halves l d b F (spot_of l (d + 1) c) ≡ Some c → IsCovered l (with_halves l d b F) e v
       covered w e v k m c x y = record {
@@ -127,6 +133,46 @@ module _ (l : Land) (lawful : IsLawful l) where
       below e v (inl k) = inl (sym k.0, sym k.1)
       below e v (inr (inl k)) = inr (covered s e v low_part k Low i.2 low_waits)
       below e v (inr (inr k)) = inr (covered t e v high_part k High i.3 high_waits)
+
+    -- the lower half stands before the other boxes that wait
+    module _ (s : State l f g last n listed None) (b : Span) (sound : IsSound l b) (here : f (spot_of l d b) ≡ Some b) (least : (z : Spot) (c : Span) → f z ≡ Some c → first z (spot_of l d b) ≡ false) where
+      abbrev Here : Spot
+      Here = spot_of l d b
+
+      before_upper : is_final l b ≡ false → first (spot_of l (d + 1) (lower_half b (cut_of b))) (spot_of l (d + 1) (upper_half b (cut_of b))) ≡ true
+      before_upper h =
+          let two = halved l b sound h in
+          let high = corner_within l (upper_half b (cut_of b)) l.top two.upper.box two.upper.inside in
+          let up = spot_up (spot_of l (d + 1) (lower_half b (cut_of b))) (spot_of l (d + 1) (upper_half b (cut_of b)))
+          (lawful.grows b.lo (upper_half b (cut_of b)).lo (corner_within l b l.top sound.box sound.inside) high two.upper_in.0) two.upper_in.0 (omega arith) in
+          by (first (spot_of l (d + 1) (lower_half b (cut_of b))) (spot_of l (d + 1) (upper_half b (cut_of b)))) (λ x. x)
+          (λ x. absurd (false≢true (sym (two_places l (d + 1) b sound h) ∙ equal_test (spot_of l (d + 1) (lower_half b (cut_of b))) (spot_of l (d + 1) (upper_half b (cut_of b))) x up)))
+
+      -- another box that waits has another corner
+      other_corner : (z : Spot) (c : Span) → f z ≡ Some c → z.key.steps ≡ b.lo → z ≡ Here
+      other_corner z c h e =
+          let a = s.waits z c h in
+          let corner : c.lo ≡ b.lo = sym (ap (λ (q : Spot). q.key.steps) a.place) ∙ e in
+          let sound_c = subst (IsSound l) a.box (at_sound l lawful z.depth a.part a.at) in
+          s.apart z Here c b b.lo h here (subst (λ r. IsWithin r c) corner (corner_in_box l c sound_c)) (corner_in_box l b sound)
+
+      before_others : (z : Spot) (c : Span) → f z ≡ Some c → is_eq (spot_cmp Here z) ≡ false → first (spot_of l (d + 1) (lower_half b (cut_of b))) z ≡ true
+      before_others z c h k =
+          let behind : first Here z ≡ true = by (first Here z) (λ x. x) (λ x. absurd (false≢true (sym k ∙ equal_test Here z x (least z c h)))) in
+          by (first (spot_of l (d + 1) (lower_half b (cut_of b))) z) (λ x. x)
+          (λ x.
+          let same = spot_same (spot_of l (d + 1) (lower_half b (cut_of b))) z (equal_test (spot_of l (d + 1) (lower_half b (cut_of b))) z x (next_deeper Here z behind)) in
+          let this = other_corner z c h (sym (ap (λ (q : Spot). q.key.steps) same)) in
+          absurd (false≢true (sym k ∙ subst (λ q. is_eq (spot_cmp Here q) ≡ true) (sym this) (equal_itself Here))))
+
+      pub lower_ahead : is_final l b ≡ false → (z : Spot) (c : Span) → with_entry (spot_of l (d + 1) (upper_half b (cut_of b))) (upper_half b (cut_of b)) (without Here f) z ≡ Some c
+          → first (spot_of l (d + 1) (lower_half b (cut_of b))) z ≡ true
+      lower_ahead h z c k = elim (entry_cases (spot_of l (d + 1) (upper_half b (cut_of b))) (upper_half b (cut_of b)) (without Here f) z c k) as (λ _. first (spot_of l (d + 1) (lower_half b (cut_of b))) z ≡ true) [
+        | inl x ↦ subst (λ q. first (spot_of l (d + 1) (lower_half b (cut_of b))) q ≡ true) x.0 (before_upper h)
+        | inr y ↦
+            let x = without_cases Here f z c y in
+            before_others z c x.1 x.0
+      ]
 
   -- at the start only the box of all recipes waits
   count_none : (t : Tree) (k : ℕ) → count (done_in l None) k t ≡ 0
@@ -147,6 +193,13 @@ module _ (l : Land) (lawful : IsLawful l) where
       | inr x ↦ absurd (none_some b x)
     ];
     later = λ z b h. refl;
+    apart = λ z y b c r h k x w. elim (entry_cases (spot_of l 0 l.top) l.top (λ q. None) z b h) as (λ _. z ≡ y) [
+      | inl p ↦ elim (entry_cases (spot_of l 0 l.top) l.top (λ q. None) y c k) as (λ _. z ≡ y) [
+        | inl q ↦ sym p.0 ∙ q.0
+        | inr q ↦ absurd (none_some c q)
+      ]
+      | inr p ↦ absurd (none_some b p)
+    ];
     covers = λ e v i h. record {
       depth = 0;
       above = tree_of l;

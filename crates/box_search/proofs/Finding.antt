@@ -1,10 +1,8 @@
 -- The steps of a search, as the code takes them.
-use Rattle.std.proofs.Common.{◌≡◌, ◌+◌, ◌*◌, ◌<◌, ◌≤◌, min, ℕ, zero, suc, List, [], ◌∷◌, ◌++◌, Bool, true, false, length, if◌then◌else◌, length-append, refl, sym, ap, subst, ◌∙◌, arith}
-use Rattle.std.specs.Prelude.{Option, Some, None, IsSome, is_some}
+use Rattle.std.proofs.Common.{◌≡◌, ◌+◌, ◌*◌, ◌≤◌, min, ℕ, List, [], ◌∷◌, ◌++◌, Bool, true, false, length, if◌then◌else◌, length-append, refl, sym, ap, subst, ◌∙◌, arith}
+use Rattle.std.specs.Prelude.{Option, Some, None, is_some}
 use Rattle.std.specs.BTreeMap.{BTreeMap, btree_map_len, is_at}
 use Rattle.std.specs.Map.{lookup}
-use Rattle.std.specs.Ordering.{is_eq, is_gt}
-use Rattle.std.proofs.lemmas.Bool.{false≢true}
 use Rattle.box_specs.specs.declared.certificate.CertLine.{CertLine}
 use Rattle.box_specs.specs.declared.certificate.CertLine.TheVariants.{Dear}
 use Rattle.box_specs.specs.declared.certificate.Claim.{Claim}
@@ -14,14 +12,16 @@ use Rattle.box_specs.specs.Canonical.{IsClaim, IsPart, is_judged, line_of, lines
 use Rattle.box_specs.specs.Landscape.{IsLawful, Land, judgement}
 use Rattle.box_specs.specs.Span.{Span}
 use Rattle.box_specs.specs.Splits.{cut_of}
-use Rattle.box_specs.specs.Tree.{Spot, Tree, count, fork, leaf, need, rank, root, spot_cmp, spot_of, tree_of}
+use Rattle.box_specs.specs.Tree.{Spot, Tree, count, fork, leaf, need, rank, root, spot_of, tree_of}
 use Rattle.box_specs.specs.Validity.{is_pass_line, is_undecided_line}
-use Rattle.box_search.specs.Answers.{IsFound, is_open_answer, next, next_listed}
-use Rattle.box_search.specs.Frontier.{Going, State, done_in, with_entry, with_halves, without}
+use Rattle.box_search.specs.Answers.{IsFound, halves_by, is_open_answer, next_listed}
+use Rattle.box_search.specs.Frontier.{State, done_in, with_entry, without}
+use Rattle.box_search.specs.Hand.{Going, IsAhead, IsFirst, halves_of, lower_of, with_hand, with_upper}
 use Rattle.box_search.specs.Places.{at, place, place_cmp}
+use Rattle.box_search.specs.declared.hand.Halves.{Halves}
 use Rattle.box_search.specs.declared.place.Place.{Place}
-use Rattle.box_search.proofs.Endings.{canonical_at, first_state, floor_need, next_rank, none_is, none_need, ranked, turned_fork, turned_leaf, won_is, won_need}
-use Rattle.box_search.proofs.Frontier.{step}
+use Rattle.box_search.proofs.Endings.{canonical_at, first_state, floor_need, lower_ahead, next_rank, none_is, none_need, ranked, turned_fork, turned_leaf, with_halves, won_is, won_need}
+use Rattle.box_search.proofs.Frontier.{none_some, step}
 use Rattle.box_search.proofs.Orders.{first, turned}
 use Rattle.box_search.proofs.Ranks.{at_sound, at_tree}
 use Rattle.box_search.proofs.Trees.{IsSound, count_le}
@@ -51,53 +51,66 @@ module _ (l : Land) (lawful : IsLawful l) where
         omega (arith, lines_, same, s.counted);
   }
 
+  -- where a search stands once a box is judged: the map and the box in hand
+  pub record Judged (hand : Option (Place × Span)) (f : Spot → Option Span) (g : Spot → Option CertLine) (q : Spot) (n : ℕ) (listed : List (List ℕ)) (won : Option (List ℕ)) : Type 0 where
+    pub state : State l (with_hand hand f) g (Some q) n listed won
+    pub ahead : IsAhead hand f
+
   core : (f : Spot → Option Span) (g : Spot → Option CertLine) (last : Option Spot) (n : ℕ) (listed : List (List ℕ)) (won : Option (List ℕ)) (d : ℕ) (u : Tree)
       → State l f g last n listed None → IsPart l (tree_of l) 0 d u → f (spot_of l d (root u)) ≡ Some (root u) → ((z : Spot) (b : Span) → f z ≡ Some b → first z (spot_of l d (root u)) ≡ false)
       → (is_pass_line (line_of l (root u)) ≡ true → won ≡ Some (root u).lo)
-      → State l (next l d (root u) (judgement l (root u)) (without (spot_of l d (root u)) f)) (with_entry (spot_of l d (root u)) (line_of l (root u)) g) (Some (spot_of l d (root u))) (n + 1)
-      (next_listed (root u) (judgement l (root u)) listed) won
+      → Judged (lower_of (halves_by l d (root u) (judgement l (root u)))) (with_upper (halves_by l d (root u) (judgement l (root u))) (without (spot_of l d (root u)) f))
+      (with_entry (spot_of l d (root u)) (line_of l (root u)) g) (spot_of l d (root u)) (n + 1) (next_listed (root u) (judgement l (root u)) listed) won
   core f g last n listed won d u s i here least pass = go (is_open_answer (judgement l (root u))) refl where
-    Q : Spot
-    Q = spot_of l d (root u)
-
     G : Spot → Option CertLine
     G = with_entry (spot_of l d (root u)) (line_of l (root u)) g
+
+    H : Bool → Option Halves
+    H t = if t then Some (halves_of l d (root u)) else None
 
     listed_is : (if is_undecided_line (line_of l (root u)) then listed ++ (root u).lo ∷ [] else listed) ≡ next_listed (root u) (judgement l (root u)) listed
     listed_is = ap (λ b. if b then listed ++ (root u).lo ∷ [] else listed) (undecided_by (judgement l (root u)) (cut_of (root u)))
 
     go : (t : Bool) → is_open_answer (judgement l (root u)) ≡ t
-        → State l (λ z. if t then with_halves l d (root u) (without (spot_of l d (root u)) f) z else without (spot_of l d (root u)) f z) (with_entry (spot_of l d (root u)) (line_of l (root u)) g) (Some (spot_of l d (root u))) (n + 1)
-        (next_listed (root u) (judgement l (root u)) listed) won
+        → Judged (lower_of (H t)) (with_upper (H t) (without (spot_of l d (root u)) f)) G (spot_of l d (root u)) (n + 1) (next_listed (root u) (judgement l (root u)) listed) won
     go true e =
-        let turn = turned_fork l lawful f g last n listed d u (at_tree l lawful d u i) i (open_final l (root u) true e) in
-        subst (λ rs. State l (with_halves l d (root u) (without (spot_of l d (root u)) f)) (with_entry (spot_of l d (root u)) (line_of l (root u)) g) (Some (spot_of l d (root u))) (n + 1) rs won) listed_is
-        (step l lawful f (with_halves l d (root u) (without (spot_of l d (root u)) f)) g last n listed d u s here i least turn won pass)
+        let final = open_final l (root u) true e in
+        let turn = turned_fork l lawful f g last n listed d u (at_tree l lawful d u i) i final in
+        record {
+          state = subst (λ rs. State l (with_halves l d (root u) (without (spot_of l d (root u)) f)) G (Some (spot_of l d (root u))) (n + 1) rs won) listed_is
+              (step l lawful f (with_halves l d (root u) (without (spot_of l d (root u)) f)) g last n listed d u s here i least turn won pass);
+          ahead = lower_ahead l lawful f g last n listed d s (root u) (at_sound l lawful d u i) here least final;
+        }
     go false e =
         let turn = turned_leaf l lawful f g last n listed d u (at_tree l lawful d u i) (open_final l (root u) false e) in
-        subst (λ rs. State l (without (spot_of l d (root u)) f) (with_entry (spot_of l d (root u)) (line_of l (root u)) g) (Some (spot_of l d (root u))) (n + 1) rs won) listed_is
-        (step l lawful f (without (spot_of l d (root u)) f) g last n listed d u s here i least turn won pass)
+        record {
+          state = subst (λ rs. State l (without (spot_of l d (root u)) f) G (Some (spot_of l d (root u))) (n + 1) rs won) listed_is
+              (step l lawful f (without (spot_of l d (root u)) f) g last n listed d u s here i least turn won pass);
+          ahead = tt;
+        }
 
   -- one box more is judged
-  pub goes_on : (f f1 f2 : Spot → Option Span) (g g2 : Spot → Option CertLine) (last : Option Spot) (n : ℕ) (listed listed2 : List (List ℕ)) (won : Option (List ℕ)) (q : Spot) (c : Span)
-      → State l f g last n listed None → f q ≡ Some c → ((z : Spot) → IsSome (f z) → is_gt (spot_cmp q z) ≡ false)
-      → ((z : Spot) → f1 z ≡ without q f z) → ((z : Spot) → f2 z ≡ next l q.depth c (judgement l c) f1 z) → ((z : Spot) → g2 z ≡ with_entry q (line_of l c) g z)
-      → listed2 ≡ next_listed c (judgement l c) listed → (is_pass_line (line_of l c) ≡ true → won ≡ Some c.lo) → State l f2 g2 (Some q) (n + 1) listed2 won
-  goes_on f f1 f2 g g2 last n listed listed2 won q c s here least pop turn write list pass =
-      let a = s.waits q c here in
-      let F1 : f1 ≡ without q f = λ i z. pop z i in
-      let F2 : f2 ≡ next l q.depth c (judgement l c) f1 = λ i z. turn z i in
+  pub goes_on : (f f1 f2 : Spot → Option Span) (hand : Option (Place × Span)) (g g2 : Spot → Option CertLine) (last : Option Spot) (n : ℕ) (listed listed2 : List (List ℕ)) (won : Option (List ℕ)) (q : Spot) (c : Span)
+      → State l f g last n listed None → IsFirst f q c f1
+      → hand ≡ lower_of (halves_by l q.depth c (judgement l c)) → ((z : Spot) → f2 z ≡ with_upper (halves_by l q.depth c (judgement l c)) f1 z) → ((z : Spot) → g2 z ≡ with_entry q (line_of l c) g z)
+      → listed2 ≡ next_listed c (judgement l c) listed → (is_pass_line (line_of l c) ≡ true → won ≡ Some c.lo) → Judged hand f2 g2 q (n + 1) listed2 won
+  goes_on f f1 f2 hand g g2 last n listed listed2 won q c s h lower turn write list pass =
+      let a = s.waits q c h.waits in
+      let F1 : f1 ≡ without q f = λ i z. h.taken z i in
+      let F2 : f2 ≡ with_upper (halves_by l q.depth c (judgement l c)) f1 = λ i z. turn z i in
       let G2 : g2 ≡ with_entry q (line_of l c) g = λ i z. write z i in
+      let H : Option Halves = halves_by l q.depth c (judgement l c) in
       let P : Spot → Span → Type 0 = λ p b.
       f p ≡ Some b → ((z : Spot) (e : Span) → f z ≡ Some e → first z p ≡ false) → (is_pass_line (line_of l b) ≡ true → won ≡ Some b.lo)
-      → State l (next l p.depth b (judgement l b) (without p f)) (with_entry p (line_of l b) g) (Some p) (n + 1) (next_listed b (judgement l b) listed) won in
+      → Judged (lower_of (halves_by l p.depth b (judgement l b))) (with_upper (halves_by l p.depth b (judgement l b)) (without p f)) (with_entry p (line_of l b) g) p (n + 1) (next_listed b (judgement l b) listed) won in
       let at_root : P (spot_of l q.depth (root a.part)) (root a.part) = λ x y z. core f g last n listed won q.depth a.part s a.at x y z in
       let at_box : P q c = subst (λ p. P p c) (sym a.place) (subst (λ b. P (spot_of l q.depth b) b) a.box at_root) in
-      let early = λ (z : Spot) (b : Span) (h : f z ≡ Some b). turned z q ∙ least z (ap is_some h) in
-      let done = at_box here early pass in
-      subst (λ h. State l h g2 (Some q) (n + 1) listed2 won) (sym (F2 ∙ ap (λ h. next l q.depth c (judgement l c) h) F1))
-      (subst (λ h. State l (next l q.depth c (judgement l c) (without q f)) h (Some q) (n + 1) listed2 won) (sym G2)
-      (subst (λ rs. State l (next l q.depth c (judgement l c) (without q f)) (with_entry q (line_of l c) g) (Some q) (n + 1) rs won) (sym list) done))
+      let early = λ (z : Spot) (b : Span) (x : f z ≡ Some b). turned z q ∙ h.least z (ap is_some x) in
+      let done = at_box h.waits early pass in
+      subst (λ x. Judged x f2 g2 q (n + 1) listed2 won) (sym lower)
+      (subst (λ x. Judged (lower_of H) x g2 q (n + 1) listed2 won) (sym (F2 ∙ ap (λ x. with_upper H x) F1))
+      (subst (λ x. Judged (lower_of H) (with_upper H (without q f)) x q (n + 1) listed2 won) (sym G2)
+      (subst (λ rs. Judged (lower_of H) (with_upper H (without q f)) (with_entry q (line_of l c) g) q (n + 1) rs won) (sym list) done)))
 
   -- a recipe passes: it is the answer
   pub wins : (f f2 : Spot → Option Span) (g g2 : Spot → Option CertLine) (last : Option Spot) (n m : ℕ) (listed listed2 : List (List ℕ)) (q : Spot) (c : Span)
@@ -122,13 +135,13 @@ module _ (l : Land) (lawful : IsLawful l) (f : Spot → Option Span) (g : Spot �
       let all = none_need l lawful f g last n listed s empty in
       found_of l lawful f g last n listed None budget NoMatch s (omega (arith, all, h)) (omega (arith, all, h), none_is l lawful f g last n listed s empty)
 
-  pub found_floor : (q : Spot) (c : Span) → f q ≡ Some c → ((z : Spot) → IsSome (f z) → is_gt (spot_cmp q z) ≡ false) → n ≡ budget → IsFound l budget (Floor q.key.cost) listed n g
-  found_floor q c here least e =
-      let early = λ (z : Spot) (b : Span) (h : f z ≡ Some b). turned z q ∙ least z (ap is_some h) in
-      let more = floor_need l lawful f g last n listed s q c here early in
-      let a = s.waits q c here in
+  pub found_floor : (q : Spot) (c : Span) (others : Spot → Option Span) → IsFirst f q c others → n ≡ budget → IsFound l budget (Floor q.key.cost) listed n g
+  found_floor q c others h e =
+      let early = λ (z : Spot) (b : Span) (x : f z ≡ Some b). turned z q ∙ h.least z (ap is_some x) in
+      let more = floor_need l lawful f g last n listed s q c h.waits early in
+      let a = s.waits q c h.waits in
       let spots : q ≡ spot_of l q.depth (root a.part) = a.place ∙ (λ i. spot_of l q.depth (sym a.box i)) in
-      let ranks : rank l (spot_of l q.depth (root a.part)) ≡ budget = subst (λ z. rank l z ≡ budget) spots (next_rank l lawful f g last n listed s q c here early ∙ e) in
+      let ranks : rank l (spot_of l q.depth (root a.part)) ≡ budget = subst (λ z. rank l z ≡ budget) spots (next_rank l lawful f g last n listed s q c h.waits early ∙ e) in
       found_of l lawful f g last n listed None budget (Floor q.key.cost) s (omega (arith, more, e)) (omega (arith, more, e), q.depth, a.part, a.at, ranks, ap (λ (z : Spot). z.key.cost) spots)
 
 -- a map with no entries
@@ -138,17 +151,16 @@ empty_at {X} m h z = go m.entries h where
   go [] e = refl
   go (x ∷ es) e = absurd (omega (arith, e))
 
-pub none_left : (n : ℕ) → (0 < n → false ≡ true) → n ≡ 0
-none_left zero h = refl
-none_left (suc n) h = absurd (false≢true (h (omega arith)))
-
-pub begins : (l : Land) → IsLawful l → (f f0 : Spot → Option Span) (g : Spot → Option CertLine) (listed : List (List ℕ)) → ((z : Spot) → f z ≡ with_entry (spot_of l 0 l.top) l.top f0 z)
-    → ((z : Spot) → f0 z ≡ None) → ((z : Spot) → g z ≡ None) → listed ≡ [] → Going l f g 0 listed
-begins l lawful f f0 g listed h h0 k e = record {
-  last = None;
-  state =
-      let F : f ≡ with_entry (spot_of l 0 l.top) l.top (λ q. None) = λ i z. (h z ∙ ap (λ o. if is_eq (spot_cmp (spot_of l 0 l.top) z) then Some l.top else o) (h0 z)) i in
-      let G : g ≡ (λ z. None) = λ i z. k z i in
-      subst (λ a. State l a g None 0 listed None) (sym F) (subst (λ a. State l (with_entry (spot_of l 0 l.top) l.top (λ q. None)) a None 0 listed None) (sym G)
-      (subst (λ rs. State l (with_entry (spot_of l 0 l.top) l.top (λ q. None)) (λ z. None) None 0 rs None) (sym e) (first_state l lawful)));
-}
+pub begins : (l : Land) → IsLawful l → (hand : Option (Place × Span)) (f : Spot → Option Span) (g : Spot → Option CertLine) (listed : List (List ℕ)) → hand ≡ Some (place (spot_of l 0 l.top), l.top)
+    → ((z : Spot) → f z ≡ None) → ((z : Spot) → g z ≡ None) → listed ≡ [] → Going l hand f g 0 listed
+begins l lawful hand f g listed h empty k e =
+    let F : f ≡ (λ z. None) = λ i z. empty z i in
+    let G : g ≡ (λ z. None) = λ i z. k z i in
+    let start : Going l (Some (place (spot_of l 0 l.top), l.top)) (λ z. None) (λ z. None) 0 [] = record {
+      last = None;
+      state = first_state l lawful;
+      ahead = λ z b x. absurd (none_some b x);
+    } in
+    subst (λ a. Going l a f g 0 listed) (sym h) (subst (λ a. Going l (Some (place (spot_of l 0 l.top), l.top)) a g 0 listed) (sym F)
+    (subst (λ a. Going l (Some (place (spot_of l 0 l.top), l.top)) (λ z. None) a 0 listed) (sym G)
+    (subst (λ rs. Going l (Some (place (spot_of l 0 l.top), l.top)) (λ z. None) (λ z. None) 0 rs) (sym e) start)))

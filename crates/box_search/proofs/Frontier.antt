@@ -14,7 +14,7 @@ use Rattle.price_grid.specs.Order.{key_cmp}
 use Rattle.box_specs.specs.declared.certificate.CertLine.{CertLine}
 use Rattle.box_specs.specs.Canonical.{IsPart, IsRising, line_of}
 use Rattle.box_specs.specs.Landscape.{IsLawful, Land, is_before, is_shut, key_of}
-use Rattle.box_specs.specs.Span.{IsWithin, Span, is_single}
+use Rattle.box_specs.specs.Span.{IsInside, IsWithin, Span, is_single}
 use Rattle.box_specs.specs.Splits.{cut_of, lower_half, upper_half}
 use Rattle.box_specs.specs.Tree.{Spot, Tree, count, fork, leaf, root, spot_cmp, spot_of, tree_of}
 use Rattle.box_specs.specs.Validity.{is_pass_line, is_undecided_line}
@@ -22,7 +22,7 @@ use Rattle.box_specs.proofs.Cuts.{from_lower, from_upper, in_lower, in_upper, no
 use Rattle.box_search.specs.Frontier.{IsAt, IsCovered, IsOpen, State, done_in, is_done, with_entry, without}
 use Rattle.box_search.proofs.Orders.{IsTied, by, equal_one, equal_spot, equal_two, first, key_not_before, not_after, not_both, not_itself, on_before, same_list, same_number, spots_are_ordered, tied, tied_keys}
 use Rattle.box_search.proofs.Ranks.{alike, at_sound, at_tree, below_after, not_false, not_true, whole}
-use Rattle.box_search.proofs.Trees.{IsTree, apart, corner_within, count_le, count_lt, halved, inside_itself, part_deep, part_inside, part_tree, sound_of}
+use Rattle.box_search.proofs.Trees.{IsSound, IsTree, apart, corner_within, count_le, count_lt, halved, inside_itself, part_deep, part_inside, part_tree, sound_of, within_inside}
 use Rattle.box_search.proofs.Walks.{undecided}
 
 -- places that compare equal are one
@@ -68,26 +68,29 @@ without_cases {X} q f z b h = go (is_eq (spot_cmp q z)) refl h where
   go false e y = (e, y)
 
 module _ (l : Land) where
+  -- two parts at one depth with a recipe in common are one part
+  pub shared_part : (t : Tree) (k d : ℕ) (u v : Tree) (r : List ℕ) → IsTree l t → IsPart l t k d u → IsPart l t k d v → IsWithin r (root u) → IsWithin r (root v) → u ≡ v
+  shared_part (leaf b) k d u v r i h m x y = sym h.1 ∙ m.1
+  shared_part (fork b s t) k d u v r i (inl h) (inl m) x y = sym h.1 ∙ m.1
+  shared_part (fork b s t) k d u v r i (inl h) (inr (inl m)) x y = absurd (omega (arith, h.0, part_deep l s (k + 1) d v m))
+  shared_part (fork b s t) k d u v r i (inl h) (inr (inr m)) x y = absurd (omega (arith, h.0, part_deep l t (k + 1) d v m))
+  shared_part (fork b s t) k d u v r i (inr (inl h)) (inl m) x y = absurd (omega (arith, m.0, part_deep l s (k + 1) d u h))
+  shared_part (fork b s t) k d u v r i (inr (inr h)) (inl m) x y = absurd (omega (arith, m.0, part_deep l t (k + 1) d u h))
+  shared_part (fork b s t) k d u v r i (inr (inl h)) (inr (inl m)) x y = shared_part s (k + 1) d u v r i.4 h m x y
+  shared_part (fork b s t) k d u v r i (inr (inr h)) (inr (inr m)) x y = shared_part t (k + 1) d u v r i.5 h m x y
+  shared_part (fork b s t) k d u v r i (inr (inl h)) (inr (inr m)) x y = absurd (apart l b s t (k + 1) d d u v r i h m x y)
+  shared_part (fork b s t) k d u v r i (inr (inr h)) (inr (inl m)) x y = absurd (apart l b s t (k + 1) d d v u r i m h y x)
+
+  -- the lower corner of a box is one of its recipes
+  pub corner_in_box : (b : Span) → IsSound l b → IsWithin b.lo b
+  corner_in_box b s = corner_within l b b s.box (inside_itself l b)
+
   -- two parts at one depth with one corner are one part
   pub same_part : (t : Tree) (k d : ℕ) (u v : Tree) → IsTree l t → IsPart l t k d u → IsPart l t k d v → (root u).lo ≡ (root v).lo → u ≡ v
-  same_part (leaf b) k d u v i h m e = sym h.1 ∙ m.1
-  same_part (fork b s t) k d u v i (inl h) (inl m) e = sym h.1 ∙ m.1
-  same_part (fork b s t) k d u v i (inl h) (inr (inl m)) e = absurd (omega (arith, h.0, part_deep l s (k + 1) d v m))
-  same_part (fork b s t) k d u v i (inl h) (inr (inr m)) e = absurd (omega (arith, h.0, part_deep l t (k + 1) d v m))
-  same_part (fork b s t) k d u v i (inr (inl h)) (inl m) e = absurd (omega (arith, m.0, part_deep l s (k + 1) d u h))
-  same_part (fork b s t) k d u v i (inr (inr h)) (inl m) e = absurd (omega (arith, m.0, part_deep l t (k + 1) d u h))
-  same_part (fork b s t) k d u v i (inr (inl h)) (inr (inl m)) e = same_part s (k + 1) d u v i.4 h m e
-  same_part (fork b s t) k d u v i (inr (inr h)) (inr (inr m)) e = same_part t (k + 1) d u v i.5 h m e
-  same_part (fork b s t) k d u v i (inr (inl h)) (inr (inr m)) e =
-      let x = sound_of l u (part_tree l s (k + 1) d u i.4 h) in
-      let y = sound_of l v (part_tree l t (k + 1) d v i.5 m) in
-      absurd (apart l b s t (k + 1) d d u v (root u).lo i h m (corner_within l (root u) (root u) x.box (inside_itself l (root u)))
-      (subst (λ r. IsWithin r (root v)) (sym e) (corner_within l (root v) (root v) y.box (inside_itself l (root v)))))
-  same_part (fork b s t) k d u v i (inr (inr h)) (inr (inl m)) e =
-      let x = sound_of l u (part_tree l t (k + 1) d u i.5 h) in
-      let y = sound_of l v (part_tree l s (k + 1) d v i.4 m) in
-      absurd (apart l b s t (k + 1) d d v u (root u).lo i m h (subst (λ r. IsWithin r (root v)) (sym e) (corner_within l (root v) (root v) y.box (inside_itself l (root v))))
-      (corner_within l (root u) (root u) x.box (inside_itself l (root u))))
+  same_part t k d u v i h m e =
+      let x = corner_in_box (root u) (sound_of l u (part_tree l t k d u i h)) in
+      let y = corner_in_box (root v) (sound_of l v (part_tree l t k d v i m)) in
+      shared_part t k d u v (root u).lo i h m x (subst (λ r. IsWithin r (root v)) (sym e) y)
 
   -- one place more at most
   if_one : (b : Bool) → (if b then 1 else 0) ≤ 1
@@ -297,6 +300,35 @@ module _ (l : Land) (lawful : IsLawful l) (f fnew : Spot → Option Span) (g : S
       not_next : (m : ℕ) → m ≡ m + 1 → ⊥
       not_next m e = omega (arith, e)
 
+    -- a recipe of a child is one of this box, and of no other box that waits
+    of_child : (z : Spot) (b : Span) (r : List ℕ) → IsChild z b → IsWithin r b → IsWithin r (root u)
+    of_child z b r c x =
+        within_inside l r b (root u) x (subst (λ a. IsInside a (root u)) c.box (part_inside l u d (d + 1) c.part (at_tree l lawful d u at_u) c.at))
+
+    not_child : (z y : Spot) (b c : Span) (r : List ℕ) → f z ≡ Some b → is_eq (spot_cmp Q z) ≡ false → IsChild y c → IsWithin r b → IsWithin r c → ⊥
+    not_child z y b c r h k m x w =
+        let same : z ≡ Q = s.apart z Q b (root u) r h here x (of_child y c r m w) in
+        false≢true (sym k ∙ subst (λ q. is_eq (spot_cmp Q q) ≡ true) (sym same) (ap is_eq (tied_itself spots_are_ordered Q)))
+
+    one_child : (z y : Spot) (b c : Span) (r : List ℕ) → IsChild z b → IsChild y c → IsWithin r b → IsWithin r c → z ≡ y
+    one_child z y b c r m o x w =
+        let same = shared_part l u d (d + 1) m.part o.part r (at_tree l lawful d u at_u) m.at o.at (subst (IsWithin r) (sym m.box) x) (subst (IsWithin r) (sym o.box) w) in
+        let depth : z.depth ≡ y.depth = m.depth ∙ sym o.depth in
+        let box : b ≡ c = sym m.box ∙ ap root same ∙ o.box in
+        m.place ∙ (λ j. spot_of l (depth j) (box j)) ∙ sym o.place
+
+    apart_after : (z y : Spot) (b c : Span) (r : List ℕ) → fnew z ≡ Some b → fnew y ≡ Some c → IsWithin r b → IsWithin r c → z ≡ y
+    apart_after z y b c r h k x w = elim (t.new z b h) as (λ _. z ≡ y) [
+      | inl p ↦ elim (t.new y c k) as (λ _. z ≡ y) [
+        | inl q ↦ s.apart z y b c r p.0 q.0 x w
+        | inr m ↦ absurd (not_child z y b c r p.0 p.1 m x w)
+      ]
+      | inr m ↦ elim (t.new y c k) as (λ _. z ≡ y) [
+        | inl q ↦ absurd (not_child y z c b r q.0 q.1 m w x)
+        | inr o ↦ one_child z y b c r m o x w
+      ]
+    ]
+
     covers : (e : ℕ) (v : Tree) → IsPart l (tree_of l) 0 e v → done_in l (Some Q) e (root v) ≡ false → IsCovered l fnew e v
     covers e v i h = go (s.covers e v i (by (done_in l last e (root v)) (λ x. absurd (true≢false (sym (older (spot_of l e (root v)) x) ∙ h))) (λ x. x))) where
       mine : (c : IsCovered l f e v) → is_eq (spot_cmp Q (spot_of l c.depth (root c.above))) ≡ true → IsCovered l fnew e v
@@ -393,6 +425,7 @@ module _ (l : Land) (lawful : IsLawful l) (f fnew : Spot → Option Span) (g : S
     step won h = record {
       waits = waits_at;
       later = later;
+      apart = apart_after;
       covers = covers;
       counted = counted;
       written = written;

@@ -3,6 +3,7 @@ mod Emitting
 mod Endings
 mod Finding
 mod Frontier
+mod Hands
 mod Orders
 pub mod Ranks
 pub mod Results

@@ -1,6 +1,6 @@
 -- The order of places.
-use Rattle.std.proofs.Common.{◌≡◌, ◌≤◌, ℕ, List, [], ◌∷◌, Bool, true, false, refl, sym, ap, ◌∙◌, arith}
-use Rattle.std.proofs.lemmas.Bool.{false≢true}
+use Rattle.std.proofs.Common.{◌≡◌, ◌+◌, ◌≤◌, ℕ, List, [], ◌∷◌, Bool, true, false, refl, sym, ap, ◌∙◌, inl, inr, arith}
+use Rattle.std.proofs.lemmas.Bool.{cases_lt, false≢true}
 use Rattle.std.proofs.lemmas.Bool.Decides.{nat_tests}
 use Rattle.std.proofs.lemmas.Slice.Eq.{bytes_eq-Decides}
 use Rattle.std.proofs.lemmas.Map.Text.{is_eq-slice_cmp}
@@ -149,3 +149,12 @@ not_deeper a b h d =
 
 pub equal_spot : (a b : Spot) → first a b ≡ false → first b a ≡ false → spot_cmp a b ≡ Equal
 equal_spot a b h k = equal_of (spot_cmp a b) h (sym (turned b a) ∙ k)
+
+-- behind a place no other stands before the one of its key that is one deeper
+pub next_deeper : (a b : Spot) → first a b ≡ true → first b (record { key = a.key; depth = a.depth + 1 }) ≡ false
+next_deeper a b h = by (is_lt (key_cmp a.key b.key))
+    (λ e. not_both (record { key = a.key; depth = a.depth + 1 }) b (before_by_key (record { key = a.key; depth = a.depth + 1 }) b e))
+    (λ e. elim (cases_lt a.depth b.depth) as (λ _. first b (record { key = a.key; depth = a.depth + 1 }) ≡ false) [
+      | inl less ↦ not_deeper (record { key = a.key; depth = a.depth + 1 }) b (key_not_before b a (not_both a b h)) (omega (arith, less))
+      | inr more ↦ absurd (false≢true (sym (not_deeper b a e more) ∙ h))
+    ])

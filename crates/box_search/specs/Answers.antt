@@ -8,7 +8,8 @@ use Rattle.box_specs.specs.Canonical.{IsCanonical, IsPart, canonical_lines, is_j
 use Rattle.box_specs.specs.Landscape.{Land}
 use Rattle.box_specs.specs.Span.{Span}
 use Rattle.box_specs.specs.Tree.{Spot, Tree, root, spot_of, tree_of}
-use Rattle.box_search.specs.Frontier.{with_halves}
+use Rattle.box_search.specs.Hand.{halves_of}
+use Rattle.box_search.specs.declared.hand.Halves.{Halves}
 
 abbrev pub is_open_answer : Judged → Bool
 is_open_answer (Limit k) = false
@@ -24,9 +25,9 @@ is_undecided_answer StillOpen = false
 is_undecided_answer Pass = false
 is_undecided_answer Undecided = true
 
--- the boxes that wait afterwards: the halves of an open box join them
-abbrev pub next : Land → ℕ → Span → Judged → (Spot → Option Span) → Spot → Option Span
-next l depth b judged f z = if is_open_answer judged then with_halves l depth b f z else f z
+-- the halves of a box that is open
+abbrev pub halves_by : Land → ℕ → Span → Judged → Option Halves
+halves_by l depth b judged = if is_open_answer judged then Some (halves_of l depth b) else None
 
 -- the undecided recipes afterwards
 abbrev pub next_listed : Span → Judged → List (List ℕ) → List (List ℕ)

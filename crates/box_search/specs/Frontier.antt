@@ -1,12 +1,11 @@
 -- Where a search stands.
-use Rattle.std.specs.Prelude.{◌≡◌, ◌≤◌, ◌+◌, not, ℕ, Bool, true, false, Option, Some, None, List, All, length, if◌then◌else◌}
+use Rattle.std.specs.Prelude.{◌≡◌, ◌≤◌, not, ℕ, Bool, true, false, Option, Some, None, List, All, length, if◌then◌else◌}
 use Rattle.std.specs.List.{Contains}
 use Rattle.std.specs.Ordering.{is_eq, is_lt}
 use Rattle.box_specs.specs.declared.certificate.CertLine.{CertLine}
 use Rattle.box_specs.specs.Canonical.{IsPart, IsRising, line_of}
 use Rattle.box_specs.specs.Landscape.{Land}
-use Rattle.box_specs.specs.Span.{Span}
-use Rattle.box_specs.specs.Splits.{cut_of, lower_half, upper_half}
+use Rattle.box_specs.specs.Span.{IsWithin, Span}
 use Rattle.box_specs.specs.Tree.{Spot, Tree, count, root, spot_cmp, spot_of, tree_of}
 use Rattle.box_specs.specs.Validity.{is_pass_line, is_undecided_line}
 
@@ -51,10 +50,11 @@ module _ (l : Land) where
     pub corner : (root part).lo ≡ r
 
   -- The boxes that wait, the lines of the judged ones, the last place judged, how many were judged, the undecided
-  -- recipes, and the one that passes, if there is one
+  -- recipes, and the one that passes, if there is one. Two boxes that wait have no recipe in common
   pub record State (f : Spot → Option Span) (g : Spot → Option CertLine) (last : Option Spot) (n : ℕ) (listed : List (List ℕ)) (won : Option (List ℕ)) : Type 0 where
     pub waits : (z : Spot) (b : Span) → f z ≡ Some b → IsAt z b
     pub later : (z : Spot) (b : Span) → f z ≡ Some b → is_done last z ≡ false
+    pub apart : (z y : Spot) (b c : Span) (r : List ℕ) → f z ≡ Some b → f y ≡ Some c → IsWithin r b → IsWithin r c → z ≡ y
     pub covers : (e : ℕ) (v : Tree) → IsPart l (tree_of l) 0 e v → done_in last e (root v) ≡ false → IsCovered f e v
     pub counted : count (done_in last) 0 (tree_of l) ≡ n
     pub written : (e : ℕ) (v : Tree) → IsPart l (tree_of l) 0 e v → g (spot_of l e (root v)) ≡ (if done_in last e (root v) then Some (line_of l (root v)) else None)
@@ -64,13 +64,3 @@ module _ (l : Land) where
     pub every : (e : ℕ) (v : Tree) → IsPart l (tree_of l) 0 e v → done_in last e (root v) ≡ true → is_undecided_line (line_of l (root v)) ≡ true → Contains listed (root v).lo
     pub shallow : (z : Spot) (b : Span) → f z ≡ Some b → z.depth ≤ n
     pub short : length listed ≤ n
-
-  -- both halves of a box wait
-  abbrev pub with_halves : ℕ → Span → (Spot → Option Span) → Spot → Option Span
-  with_halves d b f =
-      with_entry (spot_of l (d + 1) (upper_half b (cut_of b))) (upper_half b (cut_of b)) (with_entry (spot_of l (d + 1) (lower_half b (cut_of b))) (lower_half b (cut_of b)) f)
-
--- a search that goes on: no judged box passes
-pub record Going (l : Land) (f : Spot → Option Span) (g : Spot → Option CertLine) (n : ℕ) (listed : List (List ℕ)) : Type 0 where
-  pub last : Option Spot
-  pub state : State l f g last n listed None

@@ -1,5 +1,6 @@
 pub mod Answers
 pub mod Frontier
+pub mod Hand
 pub mod Laws
 pub mod Places
 pub mod Result

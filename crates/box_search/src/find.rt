@@ -5,6 +5,7 @@ ghost use Rattle.box_specs.specs.Validity.{is_pass_line};
 ghost use Rattle.box_search.specs.Answers.{IsFound};
 ghost use Rattle.box_search.specs.Places.{at, lists};
 
+use crate::hand::take_first;
 use crate::place::{Place, place_of};
 use crate::turn::turn;
 use box_core::{BoxR, CertLine, Claim, Landscape};
@@ -32,7 +33,8 @@ fn is_pass(line: CertLine) -> bool
     }
 }
 
-/// Judges boxes in their order until a recipe passes, no box is left, or the budget is spent.
+/// Judges boxes in their order until a recipe passes, no box is left, or the budget is spent. The
+/// lower half of a box that is split is the next one, and stays in hand; the map has the others.
 pub(crate) fn find<L: Landscape>(
     alloc: Global,
     land: &L,
@@ -52,9 +54,9 @@ pub(crate) fn find<L: Landscape>(
     let mut done = BTreeMap::new(alloc);
     let mut undecided = Vec::new(alloc);
     let first = place_of(land, &top, 0);
-    waiting.insert(first, top)?;
+    let mut hand = Some((first, top));
     for boxes in 0..budget {
-        let Some((place, part)) = waiting.pop_first() else {
+        let Some((place, part)) = take_first(hand, &mut waiting) else {
             return Ok(Found {
                 claim: Claim::NoMatch,
                 boxes,
@@ -62,7 +64,7 @@ pub(crate) fn find<L: Landscape>(
                 done,
             });
         };
-        let line = turn(
+        let (line, lower) = turn(
             land,
             &mut waiting,
             &mut done,
@@ -79,8 +81,9 @@ pub(crate) fn find<L: Landscape>(
                 done,
             });
         }
+        hand = lower;
     }
-    let claim = match waiting.first_key_value() {
+    let claim = match take_first(hand, &mut waiting) {
         None => Claim::NoMatch,
         Some((place, _)) => Claim::Floor(place.key.cost),
     };

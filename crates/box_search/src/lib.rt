@@ -3,6 +3,7 @@
 
 mod emit;
 mod find;
+mod hand;
 pub mod laws;
 mod outcome;
 mod place;

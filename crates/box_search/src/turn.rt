@@ -1,6 +1,6 @@
 //! Judging one box.
 
-ghost use Rattle.std.specs.Prelude.{◌≡◌, ◌<◌, ◌^◌, IfOk, OnOk, false};
+ghost use Rattle.std.specs.Prelude.{◌≡◌, ◌<◌, ◌^◌, IfOk, OnErr, OnOk, false};
 ghost use Rattle.box_specs.specs.Canonical.{line_by, line_of};
 ghost use Rattle.box_specs.specs.declared.judged.Judged.TheVariants.{StillOpen};
 ghost use Rattle.box_specs.specs.Landscape.{judgement};
@@ -8,30 +8,26 @@ ghost use Rattle.box_specs.specs.Span.{IsBox, IsInside, is_single};
 ghost use Rattle.box_specs.specs.Splits.{cut_of};
 ghost use Rattle.box_specs.specs.Tree.{Spot};
 ghost use Rattle.box_core.specs.Meter.{CountsOne};
-ghost use Rattle.box_search.specs.Answers.{next, next_listed};
-ghost use Rattle.box_search.specs.Frontier.{with_entry, with_halves};
+ghost use Rattle.box_search.specs.Answers.{halves_by, next_listed};
+ghost use Rattle.box_search.specs.Frontier.{with_entry};
+ghost use Rattle.box_search.specs.Hand.{halves_of, lower_of, with_upper};
 ghost use Rattle.box_search.specs.Places.{at, lists, spot};
 
+use crate::hand::{Halves, keep};
 use crate::place::{Place, place_of};
 use box_core::{BoxR, CertLine, Judged, Landscape, split};
 use price_grid::{Steps, copy_of};
 use std::alloc::AllocError;
 use std::collections::BTreeMap;
 
-/// Splits a box. Its halves wait.
-fn open<L: Landscape>(
-    land: &L,
-    waiting: &mut BTreeMap<Place, BoxR>,
-    part: &BoxR,
-    depth: u64,
-) -> Result<CertLine, AllocError>
+/// Splits a box.
+fn open<L: Landscape>(land: &L, part: &BoxR, depth: u64) -> (CertLine, Halves)
     requires boxed { IsBox part.now }
     requires inside { IsInside part.now (L.land land.now).top }
     requires open { is_single part.now ≡ false }
     requires depth { depth < 2 ^ 32 }
-    ensures line { IfOk result (λ line. line ≡ line_by StillOpen (cut_of part.now)) }
-    ensures waits { OnOk result ((z : Spot) → at waiting.new z
-        ≡ with_halves (L.land land.now) depth part.now (at waiting.old) z) }
+    ensures line { result.0 ≡ line_by StillOpen (cut_of part.now) }
+    ensures halves { result.1 ≡ halves_of (L.land land.now) depth part.now }
 {
     let cut = split(part);
     let line = CertLine::Split {
@@ -40,44 +36,49 @@ fn open<L: Landscape>(
     };
     let low = place_of(land, &cut.left, depth + 1);
     let high = place_of(land, &cut.right, depth + 1);
-    waiting.insert(low, cut.left)?;
-    waiting.insert(high, cut.right)?;
-    Ok(line)
+    let halves = Halves {
+        lower: (low, cut.left),
+        upper: (high, cut.right),
+    };
+    (line, halves)
 }
 
-/// The line of a box that was judged. The halves of an open one wait, and an undecided recipe is
+/// The line of a box that was judged, and the halves of an open one. An undecided recipe is
 /// listed.
 fn answer<L: Landscape>(
     land: &L,
-    waiting: &mut BTreeMap<Place, BoxR>,
     undecided: &mut Vec<Steps>,
     part: &BoxR,
     depth: u64,
     judged: Judged,
-) -> Result<CertLine, AllocError>
+) -> Result<(CertLine, Option<Halves>), AllocError>
     requires boxed { IsBox part.now }
     requires inside { IsInside part.now (L.land land.now).top }
     requires judged { judged ≡ judgement (L.land land.now) part.now }
     requires depth { depth < 2 ^ 32 }
-    ensures line { IfOk result (λ line. line ≡ line_by judged (cut_of part.now)) }
-    ensures waits { OnOk result ((z : Spot) → at waiting.new z
-        ≡ next (L.land land.now) depth part.now judged (at waiting.old) z) }
+    ensures line { IfOk result (λ r. r.0 ≡ line_by judged (cut_of part.now)) }
+    ensures halves { IfOk result (λ r. r.1
+        ≡ halves_by (L.land land.now) depth part.now judged) }
     ensures listed { OnOk result (lists undecided.new.items
         ≡ next_listed part.now judged (lists undecided.old.items)) }
 {
     match judged {
-        Judged::Limit(k) => Ok(CertLine::Limit(k)),
-        Judged::Fail(j) => Ok(CertLine::Fail(j)),
-        Judged::StillOpen => open(land, waiting, part, depth),
-        Judged::Pass => Ok(CertLine::Pass),
+        Judged::Limit(k) => Ok((CertLine::Limit(k), None)),
+        Judged::Fail(j) => Ok((CertLine::Fail(j), None)),
+        Judged::StillOpen => {
+            let (line, halves) = open(land, part, depth);
+            Ok((line, Some(halves)))
+        }
+        Judged::Pass => Ok((CertLine::Pass, None)),
         Judged::Undecided => {
             undecided.push(copy_of(&part.lo))?;
-            Ok(CertLine::Undecided)
+            Ok((CertLine::Undecided, None))
         }
     }
 }
 
-/// Judges a box, and keeps its line.
+/// Judges a box, and keeps its line. The halves of an open one wait: the upper one in the map, and
+/// the lower one in hand. Where there is no memory, the map stays as it was.
 pub(crate) fn turn<L: Landscape>(
     land: &L,
     waiting: &mut BTreeMap<Place, BoxR>,
@@ -86,14 +87,19 @@ pub(crate) fn turn<L: Landscape>(
     place: Place,
     part: &BoxR,
     meter: &mut L::Meter,
-) -> Result<CertLine, AllocError>
+) -> Result<(CertLine, Option<(Place, BoxR)>), AllocError>
     requires boxed { IsBox part.now }
     requires inside { IsInside part.now (L.land land.now).top }
     requires depth { place.depth < 2 ^ 32 }
-    ensures line { IfOk result (λ line. line ≡ line_of (L.land land.now) part.now) }
+    ensures line { IfOk result (λ r. r.0 ≡ line_of (L.land land.now) part.now) }
+    ensures hand { let judged = judgement (L.land land.now) part.now in
+        IfOk result (λ r. r.1
+        ≡ lower_of (halves_by (L.land land.now) place.depth part.now judged)) }
     ensures waits { let judged = judgement (L.land land.now) part.now in
         OnOk result ((z : Spot) → at waiting.new z
-        ≡ next (L.land land.now) place.depth part.now judged (at waiting.old) z) }
+        ≡ with_upper (halves_by (L.land land.now) place.depth part.now judged)
+        (at waiting.old) z) }
+    ensures unchanged { OnErr result ((z : Spot) → at waiting.new z ≡ at waiting.old z) }
     ensures done { OnOk result ((z : Spot) → at done.new z
         ≡ with_entry (spot place) (line_of (L.land land.now) part.now) (at done.old) z) }
     ensures listed { OnOk result (lists undecided.new.items
@@ -103,7 +109,8 @@ pub(crate) fn turn<L: Landscape>(
         (L.judged_count land.now meter.old) (L.judged_count land.now meter.new) }
 {
     let judged = land.judge(part, meter);
-    let line = answer(land, waiting, undecided, part, place.depth, judged)?;
+    let (line, halves) = answer(land, undecided, part, place.depth, judged)?;
     done.insert(place, line)?;
-    Ok(line)
+    let lower = keep(waiting, halves)?;
+    Ok((line, lower))
 }

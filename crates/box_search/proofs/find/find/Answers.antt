@@ -7,11 +7,11 @@ use Rattle.box_specs.specs.Span.{IsInside, Span}
 use Rattle.box_specs.specs.Tree.{spot_of}
 use Rattle.box_specs.specs.Validity.{is_pass_line}
 use Rattle.box_search.specs.Answers.{IsFound}
+use Rattle.box_search.specs.Hand.{with_hand}
 use Rattle.box_search.specs.Places.{at, lists, place, spot}
-use Rattle.box_search.proofs.Finding.{begins, empty_at, found_floor, found_none, found_of, goes_on, none_left, sound_at, wins}
+use Rattle.box_search.proofs.Finding.{begins, empty_at, found_floor, found_none, found_of, goes_on, sound_at, wins}
 use Rattle.box_search.proofs.Trees.{inside_itself}
-use Rattle.box_search.proofs.Turning.{entry_at}
-use Rattle.box_search.proofs.find.find.Goals.{in-None, in-Some-first_key_value}
+use Rattle.box_search.proofs.find.find.Goals.{in-None, in-Some-take_first}
 use Rattle.box_search.proofs.find.find.Goals as goal
 
 pub place_of-first-requires : goal.place_of-first-requires
@@ -20,12 +20,11 @@ place_of-first-requires g c = subst (λ (b : Span). IsInside c.top-top.result b)
 pub loop-boxes-init : goal.loop-boxes-init
 loop-boxes-init g c =
     let l = g.L.Landscape.land c.args.land.now in
+    let top = c.top-top.ensures.is in
+    let first = c.place_of-first.ensures ∙ ap (λ (b : Span). place (spot_of l 0 b)) top in
     record {
-      going = begins l c.top-top.ensures.lawful (at c.insert.new.self) (at c.new-waiting.result) (at c.new-done.result) (lists c.new-undecided.result.items)
-          (λ z.
-          entry_at c.new-waiting.result c.insert.new.self c.place_of-first.result c.top-top.result l.top (spot_of l 0 l.top) c.in_ok-insert.ensures.updates.0
-          (c.place_of-first.ensures ∙ ap (λ (b : Span). place (spot_of l 0 b)) c.top-top.ensures.is) c.top-top.ensures.is z)
-          (empty_at c.new-waiting.result c.new-waiting.ensures.len)
+      going = begins l c.top-top.ensures.lawful (Some (c.place_of-first.result, c.top-top.result)) (at c.new-waiting.result) (at c.new-done.result) (lists c.new-undecided.result.items)
+          (λ i. Some (first i, top i)) (empty_at c.new-waiting.result c.new-waiting.ensures.len)
           (empty_at c.new-done.result c.new-done.ensures.len) (ap lists c.new-undecided.ensures.items);
       spent = omega arith;
     }
@@ -34,8 +33,8 @@ pub returns-in_default-clause-found : goal.returns-in_default-clause-found
 returns-in_default-clause-found g c =
     let l = g.L.Landscape.land c.args.land.now in
     let going = c.loop-boxes.invariant.going in
-    found_none l c.top-top.ensures.lawful (at c.loop-boxes.waiting) (at c.loop-boxes.done) going.last c.loop-boxes.boxes _ c.args.budget going.state
-    (empty_at c.loop-boxes.waiting (none_left _ c.in_default.ensures.variant.1)) (omega (arith, c.loop-boxes-test.true))
+    found_none l c.top-top.ensures.lawful (with_hand c.loop-boxes.hand (at c.loop-boxes.waiting)) (at c.loop-boxes.done) going.last c.loop-boxes.boxes _ c.args.budget going.state c.in_default.ensures.none
+    (omega (arith, c.loop-boxes-test.true))
 
 pub returns-in_default-clause-judged : goal.returns-in_default-clause-judged
 returns-in_default-clause-judged g c = c.loop-boxes.invariant.spent
@@ -46,11 +45,11 @@ returns-in_default-clause-at_most g c = omega (arith, c.loop-boxes.invariant.spe
 pub turn-requires-clause-inside : goal.turn-requires-clause-inside
 turn-requires-clause-inside g c =
     let going = c.loop-boxes.invariant.going in
-    (sound_at (g.L.Landscape.land c.args.land.now) c.top-top.ensures.lawful _ _ going.last c.loop-boxes.boxes _ None (spot c.in-Some.place) c.in-Some.part going.state c.in-Some.ensures.value).inside
+    (sound_at (g.L.Landscape.land c.args.land.now) c.top-top.ensures.lawful _ _ going.last c.loop-boxes.boxes _ None (spot c.in-Some.place) c.in-Some.part going.state c.in-Some.ensures.first.waits).inside
 
 pub turn-requires-clause-depth : goal.turn-requires-clause-depth
 turn-requires-clause-depth g c =
-    let deep = c.loop-boxes.invariant.going.state.shallow (spot c.in-Some.place) c.in-Some.part c.in-Some.ensures.value in
+    let deep = c.loop-boxes.invariant.going.state.shallow (spot c.in-Some.place) c.in-Some.part c.in-Some.ensures.first.waits in
     omega (arith, deep, c.loop-boxes-test.true, c.requires)
 
 pub returns-in_err-line-clause-at_most : goal.returns-in_err-line-clause-at_most
@@ -64,16 +63,16 @@ returns-then-is_pass-clause-found g c =
     let q = spot c.in-Some.place in
     let part = c.in-Some.part in
     let n = c.loop-boxes.boxes in
-    let f = at c.loop-boxes.waiting in
-    let f2 = at c.turn.new.waiting in
+    let f = with_hand c.loop-boxes.hand (at c.loop-boxes.waiting) in
+    let f2 = with_hand c.in_ok-line.lower (at c.turn.new.waiting) in
     let done = at c.loop-boxes.done in
     let done2 = at c.turn.new.done in
     let rs2 = lists c.turn.new.undecided.items in
     let items : c.copy_of.result.items ≡ part.lo = c.copy_of.ensures ∙ ap (λ (b : Span). b.lo) c.part.view_is in
-    let new = goes_on l lawful f (at c.pop_first.new.self) f2 done done2 going.last n (lists c.loop-boxes.undecided.items) rs2 (Some part.lo) q part going.state c.in-Some.ensures.value
-    (λ z. c.in-Some.ensures.least (place z)) (λ z. c.in-Some.ensures.updates.0 (place z)) c.in_ok-line.ensures.waits c.in_ok-line.ensures.done c.in_ok-line.ensures.listed (λ h. refl) in
+    let new = (goes_on l lawful f (at c.take_first.new.waiting) (at c.turn.new.waiting) c.in_ok-line.lower done done2 going.last n (lists c.loop-boxes.undecided.items) rs2 (Some part.lo) q part going.state
+    c.in-Some.ensures.first c.in_ok-line.ensures.hand (λ z. c.in_ok-line.ensures.waits z) c.in_ok-line.ensures.done c.in_ok-line.ensures.listed (λ h. refl)).state in
     let pass : is_pass_line _ ≡ true = ap is_pass_line (sym c.in_ok-line.ensures.line) ∙ sym c.is_pass.ensures ∙ c.if-is_pass.true in
-    let won = wins l lawful f f2 done done2 going.last n (n + 1) (lists c.loop-boxes.undecided.items) rs2 q part going.state c.in-Some.ensures.value new pass in
+    let won = wins l lawful f f2 done done2 going.last n (n + 1) (lists c.loop-boxes.undecided.items) rs2 q part going.state c.in-Some.ensures.first.waits new pass in
     found_of l lawful f2 done2 (Some q) (n + 1) rs2 (Some part.lo) c.args.budget (Match c.copy_of.result) new (omega (arith, won.0, c.loop-boxes-test.true))
     (omega (arith, won.0, c.loop-boxes-test.true), won.1 ∙ ap Some (sym items))
 
@@ -89,14 +88,11 @@ loop-boxes-preserved g c =
     let going = c.loop-boxes.invariant.going in
     let part = c.in-Some.part in
     let pass : is_pass_line _ ≡ false = ap is_pass_line (sym c.in_ok-line.ensures.line) ∙ sym c.is_pass.ensures ∙ c.if-is_pass.false in
+    let new = goes_on l c.top-top.ensures.lawful (with_hand c.loop-boxes.hand (at c.loop-boxes.waiting)) (at c.take_first.new.waiting) (at c.turn.new.waiting) c.in_ok-line.lower (at c.loop-boxes.done) (at c.turn.new.done)
+    going.last c.loop-boxes.boxes (lists c.loop-boxes.undecided.items) (lists c.turn.new.undecided.items) None (spot c.in-Some.place) part going.state c.in-Some.ensures.first c.in_ok-line.ensures.hand
+    (λ z. c.in_ok-line.ensures.waits z) c.in_ok-line.ensures.done c.in_ok-line.ensures.listed (λ h. absurd (false≢true (sym pass ∙ h))) in
     record {
-      going = record {
-        last = Some (spot c.in-Some.place);
-        state = goes_on l c.top-top.ensures.lawful (at c.loop-boxes.waiting) (at c.pop_first.new.self) (at c.turn.new.waiting) (at c.loop-boxes.done) (at c.turn.new.done) going.last c.loop-boxes.boxes
-            (lists c.loop-boxes.undecided.items) (lists c.turn.new.undecided.items) None (spot c.in-Some.place) part going.state c.in-Some.ensures.value
-            (λ z. c.in-Some.ensures.least (place z)) (λ z. c.in-Some.ensures.updates.0 (place z)) c.in_ok-line.ensures.waits c.in_ok-line.ensures.done c.in_ok-line.ensures.listed
-            (λ h. absurd (false≢true (sym pass ∙ h)));
-      };
+      going = record { last = Some (spot c.in-Some.place); state = new.state; ahead = new.ahead };
       spent = omega (arith, c.loop-boxes.invariant.spent, c.turn.ensures.judged);
     }
 
@@ -109,14 +105,15 @@ returns-clause-found g c =
     let rs = lists c.loop-boxes.undecided.items in
     let done = at c.loop-boxes.done in
     let F : Claim → Type 0 = λ claim. IsFound l c.args.budget claim rs c.args.budget done in
-    elim c.match-first_key_value.branch as (λ _. F c.match-first_key_value.claim) [
+    let f = with_hand c.loop-boxes.hand (at c.loop-boxes.waiting) in
+    elim c.match-take_first-2.branch as (λ _. F c.match-take_first-2.claim) [
       | in-None w ↦
           subst F (sym w.claim-is) (subst (λ m. IsFound l c.args.budget NoMatch rs m done) whole
-          (found_none l c.top-top.ensures.lawful (at c.loop-boxes.waiting) done going.last n rs c.args.budget going.state (empty_at c.loop-boxes.waiting (none_left _ w.in-None.ensures.variant.1)) (omega (arith, whole))))
-      | in-Some-first_key_value w ↦
-          let h = w.in-Some-first_key_value in
-          subst F (sym w.claim-is) (subst (λ m. IsFound l c.args.budget (Floor h.place.now.key.cost) rs m done) whole
-          (found_floor l c.top-top.ensures.lawful (at c.loop-boxes.waiting) done going.last n rs c.args.budget going.state (spot h.place.now) h.field-0-1.now h.ensures.value (λ z. h.ensures.least (place z)) whole))
+          (found_none l c.top-top.ensures.lawful f done going.last n rs c.args.budget going.state w.in-None.ensures.none (omega (arith, whole))))
+      | in-Some-take_first w ↦
+          let h = w.in-Some-take_first in
+          subst F (sym w.claim-is) (subst (λ m. IsFound l c.args.budget (Floor h.place.key.cost) rs m done) whole
+          (found_floor l c.top-top.ensures.lawful f done going.last n rs c.args.budget going.state (spot h.place) h.field-0-1 _ h.ensures.first whole))
     ]
 
 pub returns-clause-judged : goal.returns-clause-judged
