@@ -1,4 +1,4 @@
--- A value of coordinates that are kept in range is a colour.
+-- Coordinates that are in range make a colour.
 use Rattle.std.proofs.Common.{ℕ, ◌*◌}
 use Rattle.interval_specs.specs.Ends.{Ends}
 use Rattle.interval_specs.specs.Ranges.{MagnitudeUpTo}

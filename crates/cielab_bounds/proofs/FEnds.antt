@@ -1,4 +1,4 @@
--- The ends of f, from what the integer roots and divisions give.
+-- The ends of f, from the results of the integer roots and divisions.
 use Rattle.std.proofs.Common.{ℕ, pos, ◌≡◌, ◌*◌, ◌/◌, ◌≤◌, ◌∙◌, ◌≤ℤ◌, true, false, ap, arith, lit<}
 use Rattle.std.proofs.lemmas.Int.{ints}
 use Rattle.std.specs.Int.{div_ceil}
@@ -11,7 +11,7 @@ use Rattle.cielab_bounds.specs.Cielab.{is_on_root, linear, f_down, f_up}
 use Rattle.cielab_bounds.proofs.FLaw.{f_ordered}
 use Rattle.cielab_bounds.proofs.LabRanges.{up_small}
 
--- where the root is taken
+-- where f takes the root
 pub down_root : (n t r y : ℕ) → is_on_root n t ≡ true → y ≡ t * (n * n) → r * r * r ≤ y → ((s : ℕ) → s * s * s ≤ y → s ≤ r) → pos r ≡ f_down n t
 unfolding f_down
 down_root n t r y on e fits greatest = rw on (ap pos (below_is cube cube_power y r fits greatest ∙ ap (root_below cube) e))
@@ -20,12 +20,12 @@ pub up_root : (n t r y : ℕ) → is_on_root n t ≡ true → y ≡ t * (n * n) 
 unfolding f_up
 up_root n t r y on e fits least = rw on (ap pos (above_is cube cube_power y r fits least ∙ ap (root_above cube) e))
 
--- where it is not
+-- where f takes the linear part
 pub down_linear : (n t z : ℕ) → is_on_root n t ≡ false → z ≡ linear n t → pos (z / 3132) ≡ f_down n t
 unfolding f_down
 down_linear n t z off e = rw off (ap (λ y. pos (y / 3132)) e ∙ floor_of_natural (linear n t) 3132)
 
--- what is small
+-- both ends are at most 2
 pub down_fits : (n t r : ℕ) → t ≤ 3 * n → pos r ≡ f_down n t → r ≤ 2 * n
 down_fits n t r h e =
     let o = trans_ℤ (f_down n t) (f_up n t) (pos (2 * n)) (f_ordered n t t (omega arith)) (up_small n t h) in

@@ -10,7 +10,7 @@ use Rattle.cielab_bounds.specs.Cielab.{is_on_root, linear, f_down, f_up, f_at}
 use Rattle.cielab_bounds.specs.Laws.{FEncloses}
 use Rattle.cielab_bounds.proofs.Parts.{on_root, off_root, linear_below, root_beyond, root_above_threshold}
 
--- a choice of two values keeps an order to another choice, case by case
+-- two choices of two values each are in order, where they are so in each case
 pick_low : (m : ℕ) (r s r' s' : ℤ) (b b' : Bool) → (b ≡ true → b' ≡ true → (pos m *ℤ r) ≤ℤ r') → (b ≡ true → b' ≡ false → (pos m *ℤ r) ≤ℤ s') → (b ≡ false → b' ≡ true → (pos m *ℤ s) ≤ℤ r') → (b ≡ false → b' ≡ false → (pos m *ℤ s) ≤ℤ s') → (pos m *ℤ cond b r s) ≤ℤ cond b' r' s'
 pick_low m r s r' s' true true p q u v = p refl refl
 pick_low m r s r' s' true false p q u v = q refl refl
@@ -32,7 +32,7 @@ pick_ordered r s r' s' false false p q u v = v refl refl
 floor_fits : (z : ℕ) → z / 3132 * 3132 ≤ z
 floor_fits z = omega (arith, div-add-mod' z 3132)
 
--- where the coarse end is on the root, so is the fine one
+-- where a coarse lower end is on the root, so is the fine one; where a coarse upper end is not, nor is the fine one
 still_on_root : (n m t t' : ℕ) → 0 < m → m * t ≤ t' → 216 * n < 24389 * t → 24389 * t' ≤ 216 * (m * n) → ⊥
 still_on_root n m t t' some h on off = let p = mul-le-mul_left m (add-one-le on) in omega arith
 

@@ -1,4 +1,4 @@
--- What the calls of `lab` need and give, over plain intervals.
+-- What the calls in `lab` require and ensure, over plain intervals.
 use Rattle.std.proofs.Common.{ℕ, ℤ, pos, ◌≡◌, ◌+◌, ◌*◌, ◌^◌, ◌≤◌, ◌∙◌, unsigned_abs, arith, mul-le-mul}
 use Rattle.interval_specs.specs.Ends.{Ends, one_at, magnitude_of}
 use Rattle.interval_specs.specs.Ranges.{UpTo}

@@ -16,14 +16,14 @@ off_root n t h = grind (arith, nat_tests)
 pub linear_below : (n t f : ℕ) → 24389 * t ≤ 216 * n → f * 3132 ≤ linear n t → 29 * f ≤ 6 * n
 linear_below n t f h k = omega arith
 
--- a cube root rounded down is at least whatever is at most 6/29, above the threshold
+-- above the threshold, a cube root rounded down is at least each number that is at most 6/29
 pub root_beyond : (n t f : ℕ) → 216 * n < 24389 * t → 29 * f ≤ 6 * n → f ≤ root_below cube (t * (n * n))
 root_beyond n t f h k =
     let c = mul-le-mul (mul-le-mul k k) k in
     let b = mul-le-mul_left (n * n) h in
     below_greatest cube cube_power (t * (n * n)) f (omega arith)
 
--- a cube root rounded up lies above 6/29, above the threshold
+-- above the threshold, a cube root rounded up is at least 6/29
 pub root_above_threshold : (n t : ℕ) → 216 * n < 24389 * t → 6 * n ≤ 29 * root_above cube (t * (n * n))
 root_above_threshold n t h =
     let r = root_above cube (t * (n * n)) in

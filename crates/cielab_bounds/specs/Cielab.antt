@@ -6,11 +6,11 @@ use Rattle.interval_specs.specs.Operations.{difference_of, multiple_of}
 use Rattle.interval_specs.specs.Roots.{cube, root_below, root_above}
 use Rattle.fix_bounds.specs.Ratios.{RatioEnds}
 
--- a ratio of t n-ths lies above (6/29)^3, where f is the cube root
+-- the ratio t / n lies above (6/29)^3, where f is the cube root
 abbrev pub is_on_root : ℕ → ℕ → Bool
 is_on_root n t = nat_lt (216 * n) (24389 * t)
 
--- else f is (841/108) t + 4/29: this over 3132
+-- elsewhere f of a ratio r is (841/108) r + 4/29; for r = t / n that is this number over 3132, in n-ths
 abbrev pub linear : ℕ → ℕ → ℕ
 linear n t = 24389 * t + 432 * n
 
@@ -22,7 +22,7 @@ f_down n t = if is_on_root n t then pos (root_below cube (t * (n * n))) else flo
 unfoldable pub f_up : ℕ → ℕ → ℤ
 f_up n t = if is_on_root n t then pos (root_above cube (t * (n * n))) else ceil_over (pos (linear n t)) 3132
 
--- f of an interval: each end is judged by itself
+-- f of an interval: for each end on its own it is decided which part of f applies
 unfoldable pub f_at : ℕ → Ends → Ends
 f_at n t = record { lo = f_down n (unsigned_abs t.lo); hi = f_up n (unsigned_abs t.hi) }
 
@@ -44,6 +44,6 @@ pub record LabEnds : Type 0 where
   pub a : Ends
   pub b : Ends
 
--- those of three ratios, at scale n
+-- the coordinates of three ratios, at scale n
 abbrev pub lab_at : ℕ → RatioEnds → LabEnds
 lab_at n r = record { l = lightness_at n r.y; a = red_green_at n r.x r.y; b = yellow_blue_at n r.y r.z }

@@ -1,5 +1,5 @@
--- What is asked of the value of a colour difference, at every scale: narrower colours at a finer scale give an interval
--- within the coarse one.
+-- The law that every colour difference must obey: narrower colours at a finer scale have an interval within the coarse
+-- one.
 use Rattle.std.specs.Prelude.{ℕ, ◌*◌, ◌^◌, ◌<◌, ◌≤◌}
 use Rattle.interval_specs.specs.Ends.{Ends}
 use Rattle.interval_specs.specs.Ranges.{MagnitudeUpTo}
@@ -13,8 +13,8 @@ pub record IsColour (n : ℕ) (p : LabEnds) : Type 0 where
   pub a : MagnitudeUpTo (1000 * n) p.a
   pub b : MagnitudeUpTo (1000 * n) p.b
 
--- the value of a standard and a sample, in this order, keeps enclosing where the scale grows from n to m * n and the
--- colours narrow
+-- the value of a standard and a sample, in this order, encloses that of narrower colours where the scale grows from n to
+-- m * n
 abbrev pub KeepsEnclosing : (ℕ → LabEnds → LabEnds → Ends) → Type 0
 KeepsEnclosing value =
     (n m : ℕ) (p q p' q' : LabEnds) → 10 ^ 6 ≤ n → 0 < m → IsColour n p → IsColour n q → IsColour (m * n) p' → IsColour (m * n) q'

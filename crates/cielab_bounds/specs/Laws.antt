@@ -1,4 +1,4 @@
--- The laws: f and the coordinates keep enclosing where the scale grows from n to m * n and the ratios narrow.
+-- The laws: f and the coordinates enclose those of narrower ratios where the scale grows from n to m * n.
 use Rattle.std.specs.Prelude.{ℕ, pos, ◌*◌, ◌<◌, ◌≤ℤ◌}
 use Rattle.interval_specs.specs.Ends.{Ends}
 use Rattle.interval_specs.specs.Encloses.{Encloses}

@@ -10,7 +10,7 @@ use crate::coordinates::Lab;
 use crate::lab_f::f_iv;
 use fix_bounds::{Iv, Ratios, Scale};
 
-/// The colour of these ratios.
+/// The CIELAB colour of these tristimulus ratios.
 pub fn lab<S: Scale>(ratios: &Ratios<S>) -> Lab<S>
     ensures { lab_ends result ≡ lab_at S.unit (ratio_ends ratios.now) }
 {
@@ -35,7 +35,7 @@ fn lightness<S: Scale>(y: Iv<S>) -> Iv<S>
     y.scale_by(116).sub(one.scale_by(16))
 }
 
-/// An opponent coordinate, from f of its two ratios.
+/// An opponent coordinate, a or b: `k` times the difference of f of its two ratios.
 fn opponent<S: Scale>(k: i64, first: Iv<S>, second: Iv<S>) -> Iv<S>
     requires k { unsigned_abs k ≤ 500 }
     requires first { UpTo (2 * S.unit) first }

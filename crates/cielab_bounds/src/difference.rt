@@ -11,7 +11,8 @@ use fix_bounds::{Iv, Scale};
 pub trait Formula: Drop {
     ghost value: { Self → ℕ → LabEnds → LabEnds → Ends };
 
-    // the law of every difference
+    // the law of every difference: the value of narrower colours at a finer scale lies within that
+    // at the coarse one
     ghost keeps_enclosing: { (x : Self) → KeepsEnclosing (value x) };
 }
 
@@ -20,10 +21,10 @@ pub trait Difference<S: Scale>: Formula {
     /// What is computed once for a standard.
     type Kept: Drop;
 
-    // the kept value is one that `keep` may give for this standard
+    // the kept value is one that `keep` may return for this standard
     ghost stands_for: { Self → Self.Kept → LabEnds → Type 0 };
 
-    /// What is kept of a standard, for the differences of many samples from it.
+    /// Computes once what the differences of many samples from this standard need.
     fn keep(&self, standard: &Lab<S>) -> Self::Kept
         ensures { stands_for self.now result (lab_ends standard.now) };
 

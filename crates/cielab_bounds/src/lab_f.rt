@@ -6,7 +6,8 @@ ghost use Rattle.cielab_bounds.specs.Cielab.{f_at, f_down, f_up, is_on_root, lin
 use fix_bounds::{Iv, Scale, unit};
 use root_bounds::{cbrt_ceil, cbrt_floor, cbrt_radicand};
 
-/// CIELAB's function f of a ratio: the cube root above (6/29)^3, and its tangent there below it.
+/// CIELAB's function f of a ratio: the cube root above (6/29)^3, and below it the tangent at that
+/// point.
 pub fn f_iv<S: Scale>(t: Iv<S>) -> Iv<S>
     requires not_below { pos 0 ≤ℤ t.lo }
     requires magnitude { t.hi ≤ℤ pos (3 * S.unit) }
@@ -49,7 +50,7 @@ fn upper_end<S: Scale>(t: u128, root: bool) -> u128
     }
 }
 
-/// Does f take the cube root here?
+/// Does f take the cube root of this ratio?
 fn on_root<S: Scale>(t: u128) -> bool
     requires { t ≤ 3 * S.unit }
     ensures { result ≡ is_on_root S.unit t }
@@ -57,7 +58,7 @@ fn on_root<S: Scale>(t: u128) -> bool
     216 * u128::from(unit::<S>()) < 24389 * t
 }
 
-/// f on its linear part, times 3132.
+/// The linear part of f, times 3132.
 fn dividend<S: Scale>(t: u128) -> u128
     requires { t ≤ 3 * S.unit }
     ensures { result ≡ linear S.unit t }

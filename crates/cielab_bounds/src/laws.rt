@@ -1,4 +1,5 @@
-//! The laws of enclosing. A call of the first two does nothing; what it ensures is the law.
+//! The laws of enclosing: a result at a coarse scale encloses that of narrower inputs at a finer
+//! scale. A call of the first two functions does nothing; what it ensures is the law.
 ghost use Rattle.std.specs.Prelude.{◌≡◌, ℕ, ◌*◌, ◌<◌};
 ghost use Rattle.interval_specs.specs.Encloses.{Encloses};
 ghost use Rattle.cielab_bounds.specs.Cielab.{LabEnds};
@@ -10,8 +11,8 @@ use crate::coordinates::Lab;
 use crate::difference::Difference;
 use fix_bounds::{Iv, Scale};
 
-/// The law of [`f_iv`](crate::f_iv): each end may stand on either part of f, at the coarse scale
-/// and at the fine one.
+/// The law of [`f_iv`](crate::f_iv): each end may lie on either part of f, the cube root or the
+/// linear one, at the coarse scale and at the fine one.
 pub fn f_iv()
     ensures { FEncloses }
 {}
@@ -21,8 +22,8 @@ pub fn lab()
     ensures { LabEncloses }
 {}
 
-/// The law of every [`Difference`]: what it gives encloses its own value at each finer scale, of
-/// each standard and sample that lie within these.
+/// The difference of a sample from a standard, with the law of every [`Difference`]: it encloses
+/// the value, at each finer scale, of every standard and sample that these enclose.
 pub fn difference<S: Scale, D: Difference<S>>(rule: &D, standard: &Lab<S>, sample: &Lab<S>) -> Iv<S>
     ensures is { result
         ≡ D.value rule.now S.unit (lab_ends standard.now) (lab_ends sample.now) }

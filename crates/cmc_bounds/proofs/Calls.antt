@@ -1,4 +1,4 @@
--- What the calls of the difference need and give, over plain intervals.
+-- What the calls in the difference require and ensure, over plain intervals.
 use Rattle.std.proofs.Common.{ℕ, pos, ◌≡◌, ◌+◌, ◌*◌, ◌^◌, ◌≤◌, ◌<◌, ◌<ℤ◌, unsigned_abs, arith, subst, sym, lit<, lit≤, mul-le-mul, mul-le-mul_right}
 use Rattle.std.proofs.Math.Nat.{le_of_mul-le-mul_left}
 use Rattle.interval_specs.specs.Ends.{Ends, IsHeld, magnitude_of}
@@ -8,14 +8,14 @@ use Rattle.interval_specs.proofs.Order.{le_pos}
 use Rattle.interval_specs.proofs.Ranges.{carry_up_to, cut_low_up_to, held, product_up_to, ratio_up_to, magnitude_of_up_to, magnitude_wider, square_up_to, positive, low_magnitude_at_least}
 use Rattle.cmc_specs.proofs.Ranges.{chroma_divisor_at_least, hue_weight_square_at_least, lightness_divisor_at_least}
 
--- an interval of a small range is held
+-- an interval of a small range satisfies IsHeld
 pub held_magnitude : (n k : ℕ) (a : Ends) → n ≤ 10 ^ 12 → k ≤ 10 ^ 13 → MagnitudeUpTo (k * n) a → IsHeld a
 held_magnitude n k a few small s = let m = mul-le-mul small few in held a (magnitude_wider (k * n) (10 ^ 25) a (omega arith) s)
 
 pub held_up_to : (n k : ℕ) (a : Ends) → n ≤ 10 ^ 12 → k ≤ 10 ^ 13 → UpTo (k * n) a → IsHeld a
 held_up_to n k a few small u = held_magnitude n k a few small (magnitude_of_up_to (k * n) a u)
 
--- magnitudes by their bounds
+-- a magnitude is at most its bound
 pub up_to_magnitude : (k : ℕ) (a : Ends) → UpTo k a → magnitude_of a ≤ k
 up_to_magnitude k a u = (magnitude_of_up_to k a u).small
 
@@ -41,13 +41,13 @@ quotient_room n k a b few p s low =
     let units = mul-le-mul_right n few in
     omega arith
 
--- a weight by its tenths
+-- an interval times a weight that is given in tenths has room
 pub tenths_room : (n w : ℕ) (a : Ends) → n ≤ 10 ^ 12 → w ≤ 100 → magnitude_of a ≤ 6 * n → magnitude_of a * w ≤ 10 ^ 15
 tenths_room n w a few p s = let m = mul-le-mul s p in omega arith
 
 -- ---- the divisors
 
--- a divisor by what it is
+-- a divisor that is known by its definition has its lower bound
 pub lightness_divisor : (n w : ℕ) (sl r : Ends) → 10 ^ 6 ≤ n → 0 < w → AtLeast 51 100 n sl → r ≡ fraction_of w 10 sl → AtLeast 509 10000 n r
 lightness_divisor n w sl r large some low e = subst (λ x. AtLeast 509 10000 n x) (sym e) (lightness_divisor_at_least n w sl large some low)
 

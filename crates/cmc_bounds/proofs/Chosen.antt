@@ -1,4 +1,4 @@
--- One of two intervals, or the least that holds both.
+-- The choice of one of two intervals, or of the hull of both.
 use Rattle.std.proofs.Common.{ℕ, ◌≡◌, ◌∙◌, Bool, true, false, cond, subst, sym}
 use Rattle.interval_specs.specs.Ends.{Ends}
 use Rattle.interval_specs.specs.Ranges.{UpTo}

@@ -1,4 +1,4 @@
--- What the calls of the cosine and of the weight of the hue need and give, over plain intervals.
+-- What the calls in the cosine and in S_H require and ensure, over plain intervals.
 use Rattle.std.proofs.Common.{ℕ, zero, suc, ℤ, pos, negsuc, ◌≡◌, ◌∙◌, ◌*◌, ◌^◌, ◌≤◌, ◌<◌, ◌≤ℤ◌, ◌<ℤ◌, true, false, cond, ◌==◌, refl, unsigned_abs, arith, ap, subst, sym, mul-le-mul, mul-le-mul_right}
 use Rattle.std.proofs.lemmas.Int.{ints}
 use Rattle.std.proofs.lemmas.Bool.Decides.{nat_tests}
@@ -28,13 +28,13 @@ not_zero z p = let s : 0 < unsigned_abs z = omega (arith, ints) in from_some (un
     from_some : (x : ℕ) → 0 < x → (x == 0) ≡ false
     from_some x s = grind (arith, nat_tests)
 
--- a chroma that may be 0
+-- the magnitude of a cosine where the chroma may be 0
 pub any_cosine : (n : ℕ) (w c1 r : Ends) → c1.lo ≡ pos 0 → r ≡ record { lo = pos 0; hi = pos n } → r ≡ cosine_magnitude n w c1
 unfolding cosine_magnitude
 any_cosine n w c1 r z e =
     subst (λ b. r ≡ cond b (record { lo = pos 0; hi = pos n }) (cut_high_at n (pos 1) (quotient_at n (absolute_of w) c1))) (sym (is_zero c1.lo z)) e
 
--- one that is not
+-- the same where the chroma is above 0
 pub known_cosine : (n : ℕ) (w c1 a d r : Ends) → IsChroma n c1 → (c1.lo ≡ pos 0 → ⊥) → a ≡ absolute_of w → d ≡ quotient_at n a c1 → r ≡ cut_high_at n (pos 1) d → r ≡ cosine_magnitude n w c1
 unfolding cosine_magnitude
 known_cosine n w c1 a d r u some p q e =
@@ -64,7 +64,7 @@ weight_is n sc f t d p e r h j k l =
     let e' : e ≡ difference_of (one_at n) (product_at n f (difference_of (one_at n) t)) = k ∙ ap (λ x. difference_of (one_at n) x) p' in
     l ∙ ap (λ x. product_at n sc x) e'
 
--- a signed number that is 0, by its bits
+-- a signed number is 0 exactly where its bits are 0
 pub zero_bits : (r z : ℤ) → r ≡ z → z ≡ pos 0 → of_z w128 r ≡ 0
 zero_bits r z e h = ap (of_z w128) (e ∙ h)
 

@@ -27,7 +27,7 @@ low_reads c a h e = let s = small_low c a h e in to_z_pos w128 c (omega arith) �
 pub high_reads : (c : ℕ) (a : Ends) → IsHeld a → pos c ≡ a.hi → to_z w128 c ≡ a.hi
 high_reads c a h e = let s = small_high c a h e in to_z_pos w128 c (omega arith) ∙ e
 
--- its ends, from the ends that the quotients are taken at
+-- the ends of the interval, where both quotients are taken at the ends of another
 pub ends_same : (numerator denominator : ℕ → ℕ) (x y : ℤ) (e : Ends) (lt lb ht hb : ℕ) → x ≡ e.lo → y ≡ e.hi → lt ≡ numerator (unsigned_abs x) → lb ≡ denominator (unsigned_abs x) → ht ≡ numerator (unsigned_abs y) → hb ≡ denominator (unsigned_abs y) → quotient_ends lt lb ht hb ≡ quotient_ends (numerator (unsigned_abs e.lo)) (denominator (unsigned_abs e.lo)) (numerator (unsigned_abs e.hi)) (denominator (unsigned_abs e.hi))
 ends_same numerator denominator x y e lt lb ht hb p q a b d f =
     let lt' = a ∙ ap (λ z. numerator (unsigned_abs z)) p in

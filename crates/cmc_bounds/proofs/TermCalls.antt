@@ -1,4 +1,4 @@
--- What the calls of the terms of the difference need and give, over plain intervals.
+-- What the calls in the terms of the difference require and ensure, over plain intervals.
 use Rattle.std.proofs.Common.{ℕ, pos, ◌≡◌, ◌∙◌, ◌+◌, ◌*◌, ◌^◌, ◌≤◌, ◌<◌, ◌≤ℤ◌, arith, ap, subst, sym, lit≤}
 use Rattle.interval_specs.specs.Ends.{Ends, magnitude_of}
 use Rattle.interval_specs.specs.Ranges.{MagnitudeUpTo, UpTo}
@@ -39,7 +39,7 @@ sum_root p z r u v e = subst (λ x. pos 0 ≤ℤ x.lo) (sym e) (sum_not_negative
 
 -- ---- chroma
 
--- the chroma of a standard, from the square that is kept for its share
+-- the chroma of a standard, from its square, which is also used for F
 pub chroma_known : (n : ℕ) (a b q c : Ends) → 10 ^ 6 ≤ n → MagnitudeUpTo (1000 * n) a → MagnitudeUpTo (1000 * n) b → q ≡ chroma_square n a b → c ≡ sqrt_at n q → (c ≡ chroma_at n a b) × IsChroma n c
 unfolding chroma_at
 chroma_known n a b q c large s t e h =
@@ -49,7 +49,7 @@ chroma_known n a b q c large s t e h =
 pub square_known : (n : ℕ) (a b q : Ends) → 10 ^ 6 ≤ n → MagnitudeUpTo (1000 * n) a → MagnitudeUpTo (1000 * n) b → q ≡ chroma_square n a b → UpTo (2 * 10 ^ 6 * n) q
 square_known n a b q large s t e = carry_up_to (2 * 10 ^ 6 * n) q (chroma_square n a b) e (chroma_square_up_to n a b (omega arith) s t)
 
--- ---- all together
+-- ---- the values of a standard together
 
 abbrev pub standard_ends : (l1 a1 b1 c1 sl sc sh : Ends) → StandardEnds
 standard_ends l1 a1 b1 c1 sl sc sh = record { l1 = l1; a1 = a1; b1 = b1; c1 = c1; sl = sl; sc = sc; sh = sh }

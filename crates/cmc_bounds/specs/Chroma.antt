@@ -1,10 +1,10 @@
--- What is known of the chroma of a colour.
+-- The range of the chroma of a colour.
 use Rattle.std.specs.Prelude.{ℕ, pos, ◌*◌, ◌≤ℤ◌, ◌<ℤ◌}
 use Rattle.interval_specs.specs.Ends.{Ends}
 use Rattle.interval_specs.specs.Ranges.{UpTo}
 
--- at scale n, c lies from 0 to 1415; and where it lies above 0 it is no less than 1000 n-ths, as the root of a number
--- that is no less than one n-th
+-- at scale n, c lies from 0 to 1415; and where it lies above 0 it is at least 1000 n-ths, since it is the square root of
+-- a number of at least one n-th
 pub record IsChroma (n : ℕ) (c : Ends) : Type 0 where
   pub range : UpTo (1415 * n) c
   pub far : pos 0 <ℤ c.lo → pos 1000 ≤ℤ c.lo

@@ -1,4 +1,4 @@
-//! Cosines and sines of the angles that the formula of T names.
+//! The cosines and sines in the formula of T, and the sums that are made with them.
 ghost use Rattle.std.specs.Prelude.{◌≡◌, ℕ, ◌*◌, ◌^◌, ◌<◌};
 ghost use Rattle.interval_specs.specs.Ends.{IsHeld};
 ghost use Rattle.interval_specs.specs.Ranges.{MagnitudeUpTo, UpTo};
@@ -7,7 +7,7 @@ ghost use Rattle.cmc_specs.specs.Cmc.{along_35, bracket};
 
 use fix_bounds::{Iv, Scale};
 
-// each lies from its number to the next one, in millionths of millionths
+// each cosine or sine lies between this number and the next one, counted in 10^-12
 pub(crate) const COS_35: u64 = 819_152_044_288;
 
 pub(crate) const SIN_35: u64 = 573_576_436_351;
@@ -24,7 +24,7 @@ pub(crate) const COS_16: u64 = 961_261_695_938;
 
 pub(crate) const SIN_16: u64 = 275_637_355_816;
 
-/// The bracket of a constant that lies from `low` to `low + 1` millionths of millionths.
+/// The interval of a constant that lies from `low` to `low + 1`, counted in 10^-12.
 fn bracket<S: Scale>(low: u64) -> Iv<S>
     requires { low < 10 ^ 12 }
     ensures is { result ≡ bracket S.unit low }
@@ -35,7 +35,7 @@ fn bracket<S: Scale>(low: u64) -> Iv<S>
     Iv::of_ends(below.lo(), above.hi())
 }
 
-/// `a` times a cosine and `b` times a sine, added.
+/// `a` times a cosine plus `b` times a sine: the part of the point (a, b) along a direction.
 pub(crate) fn turned<S: Scale>(a: Iv<S>, cos: u64, b: Iv<S>, sin: u64) -> Iv<S>
     requires a { MagnitudeUpTo (1000 * S.unit) a }
     requires b { MagnitudeUpTo (1000 * S.unit) b }
@@ -51,7 +51,7 @@ pub(crate) fn turned<S: Scale>(a: Iv<S>, cos: u64, b: Iv<S>, sin: u64) -> Iv<S>
     first.add(second)
 }
 
-/// C1 cos(h1 + 35 degrees).
+/// C1 cos(h1 + 35 degrees), which is a cos 35 - b sin 35.
 pub(crate) fn along_35<S: Scale>(a: Iv<S>, b: Iv<S>) -> Iv<S>
     requires a { MagnitudeUpTo (1000 * S.unit) a }
     requires b { MagnitudeUpTo (1000 * S.unit) b }

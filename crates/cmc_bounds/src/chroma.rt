@@ -32,7 +32,7 @@ pub(crate) fn chroma<S: Scale>(a: Iv<S>, b: Iv<S>) -> Iv<S>
     sqrt_iv(chroma_square(a, b))
 }
 
-/// What S_C gains at an end of the chroma.
+/// 0.0638 t / (1 + 0.0131 t) for an end t of the chroma, as a quotient of whole numbers.
 fn gain_at<S: Scale>(t: i128) -> Quotient
     requires { unsigned_abs t ≤ 1415 * S.unit }
     ensures numerator { result.numerator ≡ chroma_numerator S.unit (unsigned_abs t) }
@@ -45,7 +45,7 @@ fn gain_at<S: Scale>(t: i128) -> Quotient
     }
 }
 
-/// What S_C gains with the chroma.
+/// The part of S_C that grows with the chroma: 0.0638 C1 / (1 + 0.0131 C1).
 fn chroma_gain<S: Scale>(c1: Iv<S>) -> Iv<S>
     requires { UpTo (1415 * S.unit) c1 }
     ensures is { result ≡ chroma_gain S.unit c1 }
@@ -56,7 +56,7 @@ fn chroma_gain<S: Scale>(c1: Iv<S>) -> Iv<S>
     outward(low, high)
 }
 
-/// S_C.
+/// S_C: 0.638 + 0.0638 C1 / (1 + 0.0131 C1).
 pub(crate) fn chroma_weight<S: Scale>(c1: Iv<S>) -> Iv<S>
     requires { UpTo (1415 * S.unit) c1 }
     ensures is { result ≡ chroma_weight S.unit c1 }
@@ -67,7 +67,7 @@ pub(crate) fn chroma_weight<S: Scale>(c1: Iv<S>) -> Iv<S>
     least.add(chroma_gain(c1))
 }
 
-/// The share of a fourth power at one of its ends.
+/// x / (x + 1900) for an end x of a fourth power, as a quotient of whole numbers.
 fn share_at<S: Scale>(x: i128) -> Quotient
     requires { unsigned_abs x ≤ 4 * 10 ^ 12 * S.unit }
     ensures numerator { result.numerator ≡ unsigned_abs x * S.unit }
@@ -80,7 +80,7 @@ fn share_at<S: Scale>(x: i128) -> Quotient
     }
 }
 
-/// The share of a fourth power in its sum with 1900.
+/// x / (x + 1900) for a fourth power x.
 fn fourth_power_share<S: Scale>(x: Iv<S>) -> Iv<S>
     requires { UpTo (4 * 10 ^ 12 * S.unit) x }
     ensures is { result ≡ fourth_power_share S.unit x }
@@ -91,7 +91,7 @@ fn fourth_power_share<S: Scale>(x: Iv<S>) -> Iv<S>
     outward(low, high)
 }
 
-/// F, from the square of the chroma.
+/// F, the square root of C1^4 / (C1^4 + 1900), from the square of the chroma.
 pub(crate) fn hue_share<S: Scale>(p1: Iv<S>) -> Iv<S>
     requires { UpTo (2 * 10 ^ 6 * S.unit) p1 }
     ensures is { result ≡ hue_share S.unit p1 }

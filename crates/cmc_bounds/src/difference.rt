@@ -16,7 +16,7 @@ use cielab_bounds::Lab;
 use fix_bounds::{Iv, Scale};
 use root_bounds::sqrt_iv;
 
-/// What is kept of a standard.
+/// The values of a standard that its differences need.
 pub(crate) fn keep<S: Scale>(standard: &Lab<S>) -> Standard<S>
     ensures { standard_ends result ≡ standard_at S.unit (lab_ends standard.now) }
 {
@@ -35,7 +35,7 @@ pub(crate) fn keep<S: Scale>(standard: &Lab<S>) -> Standard<S>
     }
 }
 
-/// The difference of a sample from a standard that was kept.
+/// The difference of a sample from the standard whose values [`Standard`] holds.
 pub fn delta<S: Scale>(rule: &Cmc, standard: &Standard<S>, sample: &Lab<S>) -> Iv<S>
     ensures is { result
         ≡ kept_difference S.unit rule.now.l10 rule.now.c10
@@ -52,7 +52,7 @@ pub fn delta<S: Scale>(rule: &Cmc, standard: &Standard<S>, sample: &Lab<S>) -> I
     length(lightness, chroma, hue)
 }
 
-/// dL over l S_L.
+/// dL over l S_L, where dL is the difference of lightness.
 fn lightness_term<S: Scale>(rule: &Cmc, standard: &Standard<S>, sample: &Lab<S>) -> Iv<S>
     ensures is { result
         ≡ quotient_at S.unit (difference_of sample.now.l standard.now.l1)
@@ -63,7 +63,7 @@ fn lightness_term<S: Scale>(rule: &Cmc, standard: &Standard<S>, sample: &Lab<S>)
     delta.div(standard.sl.ratio_up(rule.l10 as u64, 10))
 }
 
-/// dC.
+/// dC, the difference of chroma.
 fn chroma_difference<S: Scale>(standard: &Standard<S>, sample: &Lab<S>) -> Iv<S>
     ensures is { result
         ≡ difference_of (chroma_at S.unit sample.now.a sample.now.b) standard.now.c1 }
@@ -81,7 +81,7 @@ fn chroma_term<S: Scale>(rule: &Cmc, standard: &Standard<S>, delta: Iv<S>) -> Iv
     delta.div(standard.sc.ratio_up(rule.c10 as u64, 10))
 }
 
-/// dH^2, from dC.
+/// dH^2, the square of the difference of hue: da^2 + db^2 - dC^2, which is not below 0.
 fn hue_difference_square<S: Scale>(standard: &Standard<S>, sample: &Lab<S>, delta: Iv<S>) -> Iv<S>
     requires { MagnitudeUpTo (1415 * S.unit) delta }
     ensures is { let da = difference_of sample.now.a standard.now.a1 in
@@ -112,7 +112,7 @@ fn hue_term<S: Scale>(square: Iv<S>, standard: &Standard<S>) -> Iv<S>
     square.div(hue_divisor(standard))
 }
 
-/// The root of the sum of two squares and the term of the hue.
+/// The square root of the squares of the first two terms plus the term of the hue.
 fn length<S: Scale>(lightness: Iv<S>, chroma: Iv<S>, hue: Iv<S>) -> Iv<S>
     requires lightness { MagnitudeUpTo (40000 * S.unit) lightness }
     requires chroma { MagnitudeUpTo (23000 * S.unit) chroma }

@@ -8,8 +8,8 @@ ghost use Rattle.cmc_bounds.specs.Chroma.{IsChroma};
 use crate::angles::{COS_12, COS_15, COS_16, SIN_12, SIN_15, SIN_16, along_35, turned};
 use fix_bounds::{Iv, Scale};
 
-/// The magnitude of a cosine, from its product with the chroma: any from 0 to 1 where the chroma
-/// may be 0.
+/// The magnitude of a cosine, from its product with the chroma: the interval from 0 to 1 where the
+/// chroma may be 0.
 fn cosine_magnitude<S: Scale>(product: Iv<S>, c1: Iv<S>) -> Iv<S>
     requires product { MagnitudeUpTo (2000 * S.unit) product }
     requires chroma { IsChroma S.unit c1 }
@@ -23,7 +23,7 @@ fn cosine_magnitude<S: Scale>(product: Iv<S>, c1: Iv<S>) -> Iv<S>
     }
 }
 
-/// T for hues outside 164 to 345 degrees.
+/// T for hues outside 164 to 345 degrees: 0.36 + |0.4 cos(h1 + 35)|.
 fn first_form<S: Scale>(a: Iv<S>, b: Iv<S>, c1: Iv<S>) -> Iv<S>
     requires a { MagnitudeUpTo (1000 * S.unit) a }
     requires b { MagnitudeUpTo (1000 * S.unit) b }
@@ -36,7 +36,7 @@ fn first_form<S: Scale>(a: Iv<S>, b: Iv<S>, c1: Iv<S>) -> Iv<S>
     least.add(magnitude.ratio_up(4, 10))
 }
 
-/// T for hues from 164 to 345 degrees.
+/// T for hues from 164 to 345 degrees: 0.56 + |0.2 cos(h1 + 168)|.
 fn second_form<S: Scale>(a: Iv<S>, b: Iv<S>, c1: Iv<S>) -> Iv<S>
     requires a { MagnitudeUpTo (1000 * S.unit) a }
     requires b { MagnitudeUpTo (1000 * S.unit) b }
@@ -49,21 +49,21 @@ fn second_form<S: Scale>(a: Iv<S>, b: Iv<S>, c1: Iv<S>) -> Iv<S>
     least.add(magnitude.ratio_up(2, 10))
 }
 
-/// Does the hue lie outside 164 to 345 degrees, by the two sums that are then above 0?
+/// Is it certain that the hue lies outside 164 to 345 degrees? Both sums are then above 0.
 fn is_outside<S: Scale>(p: Iv<S>, r: Iv<S>) -> bool
     ensures { result ≡ is_outside p r }
 {
     0 < p.lo() && 0 < r.lo()
 }
 
-/// Does the hue lie from 164 to 345 degrees?
+/// Is it certain that the hue lies from 164 to 345 degrees? One of the sums is then not above 0.
 fn is_inside<S: Scale>(p: Iv<S>, r: Iv<S>) -> bool
     ensures { result ≡ is_inside p r }
 {
     p.hi() <= 0 || r.hi() <= 0
 }
 
-/// T.
+/// T, or the hull of both forms where it is uncertain which of them applies.
 pub(crate) fn hue_factor<S: Scale>(a: Iv<S>, b: Iv<S>, c1: Iv<S>) -> Iv<S>
     requires a { MagnitudeUpTo (1000 * S.unit) a }
     requires b { MagnitudeUpTo (1000 * S.unit) b }
@@ -83,7 +83,7 @@ pub(crate) fn hue_factor<S: Scale>(a: Iv<S>, b: Iv<S>, c1: Iv<S>) -> Iv<S>
     }
 }
 
-/// One less `x`.
+/// 1 - x.
 fn rest<S: Scale>(x: Iv<S>) -> Iv<S>
     requires { UpTo S.unit x }
     ensures is { result ≡ difference_of (one_at S.unit) x }
@@ -93,7 +93,7 @@ fn rest<S: Scale>(x: Iv<S>) -> Iv<S>
     one.sub(x)
 }
 
-/// S_H.
+/// S_H: S_C (1 - F (1 - T)).
 pub(crate) fn hue_weight<S: Scale>(sc: Iv<S>, f: Iv<S>, t: Iv<S>) -> Iv<S>
     requires sc { UpTo (6 * S.unit) sc }
     requires sc_least { AtLeast 637 1000 S.unit sc }

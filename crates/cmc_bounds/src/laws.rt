@@ -1,9 +1,10 @@
-//! The laws of enclosing. A call does nothing; what it ensures is the law.
+//! The laws of enclosing: a result at a coarse scale encloses that of narrower inputs at a finer
+//! scale. A call does nothing; what it ensures is the law.
 ghost use Rattle.std.specs.Prelude.{ℕ};
 ghost use Rattle.cmc_specs.specs.Laws.{CmcEncloses, StandardEncloses};
 
-/// The law of what is kept of a standard: each of its values keeps enclosing, whatever side of 16
-/// its lightness lies on, and of the two hues.
+/// The law of the values of a standard: each keeps enclosing, on whichever side of 16 its lightness
+/// lies, and on whichever side of the two hues its hue.
 pub fn keep()
     ensures { StandardEncloses }
 {}

@@ -1,4 +1,4 @@
-//! The CMC(l:c) colour difference (ISO 105-J03) of intervals, at two scales.
+//! The CMC(l:c) colour difference (ISO 105-J03), computed in intervals at two scales.
 #![tactic(auto)]
 
 mod angles;

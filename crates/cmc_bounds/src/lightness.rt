@@ -5,7 +5,7 @@ ghost use Rattle.cmc_specs.specs.Cmc.{high_weight, is_dark, is_light, lightness_
 use crate::quotient::{Quotient, outward, times_unit};
 use fix_bounds::{Iv, Scale, unit};
 
-/// S_L of light colours, at an end of the lightness.
+/// 0.040975 t / (1 + 0.01765 t) for an end t of the lightness, as a quotient of whole numbers.
 fn high_weight_at<S: Scale>(t: i128) -> Quotient
     requires { unsigned_abs t ≤ 1000 * S.unit }
     ensures numerator { result.numerator ≡ lightness_numerator S.unit (unsigned_abs t) }
@@ -18,7 +18,7 @@ fn high_weight_at<S: Scale>(t: i128) -> Quotient
     }
 }
 
-/// S_L of light colours.
+/// S_L of light colours, of lightness 16 or more: 0.040975 L1 / (1 + 0.01765 L1).
 fn high_weight<S: Scale>(l1: Iv<S>) -> Iv<S>
     requires { MagnitudeUpTo (1000 * S.unit) l1 }
     ensures is { result ≡ high_weight S.unit l1 }
@@ -30,7 +30,7 @@ fn high_weight<S: Scale>(l1: Iv<S>) -> Iv<S>
     outward(low, high)
 }
 
-/// S_L of dark colours.
+/// S_L of dark colours, of lightness below 16: 0.511.
 fn low_weight<S: Scale>() -> Iv<S>
     ensures is { result ≡ low_weight S.unit }
     ensures range { UpTo (3 * S.unit) result }
@@ -38,21 +38,21 @@ fn low_weight<S: Scale>() -> Iv<S>
     Iv::of_ratio(511, 1000)
 }
 
-/// Is the lightness nowhere below 16?
+/// Is the whole interval of the lightness at 16 or above?
 fn is_light<S: Scale>(l1: Iv<S>) -> bool
     ensures { result ≡ is_light S.unit l1 }
 {
     16 * S::UNIT <= l1.lo()
 }
 
-/// Is the lightness everywhere below 16?
+/// Is the whole interval of the lightness below 16?
 fn is_dark<S: Scale>(l1: Iv<S>) -> bool
     ensures { result ≡ is_dark S.unit l1 }
 {
     l1.hi() < 16 * S::UNIT
 }
 
-/// S_L.
+/// S_L, or the hull of both forms where the lightness has ends on both sides of 16.
 pub(crate) fn lightness_weight<S: Scale>(l1: Iv<S>) -> Iv<S>
     requires { MagnitudeUpTo (1000 * S.unit) l1 }
     ensures is { result ≡ lightness_weight S.unit l1 }

@@ -1,4 +1,4 @@
-//! Quotients of natural numbers whose two ends have divisors of their own.
+//! Intervals between two quotients of natural numbers, each with its own denominator.
 ghost use Rattle.std.specs.Prelude.{◌≡◌, ℕ, ◌*◌, ◌^◌, ◌<◌, ◌≤◌};
 ghost use Rattle.interval_specs.specs.Ends.{IsHeld};
 ghost use Rattle.cmc_bounds.specs.Quotients.{quotient_ends};

@@ -2,8 +2,8 @@ ghost use Rattle.std.specs.Prelude.{◌≡◌, ⊤, ℕ, ◌<◌, ◌≤◌};
 
 use std::alloc::AllocError;
 
-/// The weights l of lightness and c of chroma, in tenths, each from 1 to 100: CMC(2:1) has 20 and
-/// 10.
+/// The rule CMC(l:c) by its weights l of lightness and c of chroma, in tenths, each from 1 to 100.
+/// CMC(2:1) has 20 and 10.
 #[derive(Copy)]
 pub struct Cmc {
     pub l10: u8,

@@ -4,7 +4,8 @@ ghost use Rattle.interval_specs.specs.Ranges.{MagnitudeUpTo, UpTo, AtLeast};
 use fix_bounds::{Iv, Scale};
 use std::alloc::AllocError;
 
-/// What is computed once of a standard: its L, a, b and chroma, and the weights S_L, S_C and S_H.
+/// The values that are computed once for a standard: its L, a, b and chroma, and the weights S_L,
+/// S_C and S_H.
 #[derive(Copy)]
 pub struct Standard<S: Scale> {
     pub l1: Iv<S>,

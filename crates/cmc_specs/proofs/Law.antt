@@ -18,7 +18,7 @@ pub use Rattle.cmc_specs.proofs.StandardLaw.{standard_encloses}
 
 -- ---- the three terms
 
--- a quotient by k tenths of an interval: by nothing where k is 0
+-- a quotient by k tenths of an interval, which is a quotient by 0 where k is 0
 weighted_encloses : (n m k : ℕ) (a a' b b' : Ends) → 0 < m → (0 < k → pos 0 <ℤ (fraction_of k 10 b).lo) → Encloses m a a' → Encloses m b b' → Encloses m (quotient_at n a (fraction_of k 10 b)) (quotient_at (m * n) a' (fraction_of k 10 b'))
 weighted_encloses n m zero a a' b b' finer low p q = rw (none_of 10 b, none_of 10 b') (quotient_by_nothing_encloses n m a a' finer p)
 weighted_encloses n m (suc k) a a' b b' finer low p q = quotient_encloses n m _ _ _ _ finer (low (omega arith)) p (fraction_encloses m (suc k) 10 _ _ q)
@@ -83,12 +83,12 @@ kept_encloses n m l10 c10 s s' q q' few finer w h k =
     let squares = sum_not_negative _ _ (square_not_negative n (lightness_term n l10 s q) some) (square_not_negative n (chroma_term n c10 s q) some) in
     sqrt_encloses n m _ _ (sum_not_negative _ _ squares (hue_term_not_negative n m s s' q q' few finer w.sh h k)) (sum_encloses m _ _ _ _ (sum_encloses m _ _ _ _ x y) z)
 
--- of colours of any magnitude, and any two weights l and c
+-- the law for colours of any magnitude and any two weights l and c
 pub any_colours_enclose : (l10 c10 : ℕ) → CmcEncloses l10 c10
 any_colours_enclose l10 c10 n m p q p' q' few finer h k =
     let w = standard_weighted n p few (outer_ordered m p.a p'.a finer h.a) (outer_ordered m p.b p'.b finer h.b) in
     kept_encloses n m l10 c10 (standard_at n p) (standard_at (m * n) p') q q' few finer w (standard_encloses n m p p' few finer h) k
 
--- the law as it is asked of every colour difference
+-- the law that every colour difference must obey
 pub cmc_encloses : (l10 c10 : ℕ) → KeepsEnclosing (cmc_at l10 c10)
 cmc_encloses l10 c10 n m p q p' q' few finer ip iq ip' iq' h k = any_colours_enclose l10 c10 n m p q p' q' few finer h k

@@ -1,4 +1,4 @@
--- Lower bounds of the values of the difference that others are divided by. They hold of colours of any magnitude.
+-- Lower bounds of the divisors in the difference. They hold for colours of any magnitude.
 use Rattle.std.proofs.Common.{ℕ, ℤ, pos, ◌+◌, ◌*◌, ◌^◌, ◌≤◌, ◌<◌, ◌-ℤ◌, ◌*ℤ◌, ◌≤ℤ◌, unsigned_abs, subst, arith, lit<, mul-le-mul, mul-le-mul_left}
 use Rattle.std.proofs.lemmas.Int.{ints, clamps}
 use Rattle.std.specs.Int.{int_max}
@@ -89,7 +89,7 @@ difference_ordered : (a b : Ends) → IsOrdered a → IsOrdered b → IsOrdered 
 unfolding difference_of
 difference_ordered a b p q = omega (arith, ints)
 
--- what F (1 - T) takes from 1 leaves at least T, or 1
+-- F (1 - T) is at most each bound of 1 - T that is not negative
 part_below : (n : ℕ) (f d : Ends) (w : ℤ) → 0 < n → UpTo n f → IsOrdered d → d.hi ≤ℤ w → pos 0 ≤ℤ w → (product_at n f d).hi ≤ℤ w
 unfolding product_at
 part_below n f d w some u o h z =

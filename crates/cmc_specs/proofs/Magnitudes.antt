@@ -1,4 +1,4 @@
--- The greatest values within the difference, from those of the coordinates.
+-- Upper bounds of the values in the difference, from those of the coordinates.
 use Rattle.std.proofs.Common.{ℕ, pos, ◌+◌, ◌*◌, ◌/◌, ◌≤◌, ◌<◌, ◌^◌, ◌*ℤ◌, ◌≤ℤ◌, ◌<ℤ◌, Bool, true, false, cond, unsigned_abs, arith, lit<, mul-le-mul, mul-le-mul_right, add-one-le, ⊎_elim}
 use Rattle.std.proofs.lemmas.Bool.{cases_lt}
 use Rattle.std.proofs.lemmas.Int.{ints}
@@ -24,7 +24,7 @@ up_to_ends p q r s k some other h numerator =
       below = ceil_least (pos r) (pos k) s other (by_parts (pos r) (pos k *ℤ pos s) (simp parts (omega arith)));
     }
 
--- one of two, or both
+-- one of two intervals, or the hull of both
 choice_up_to : (k : ℕ) (f s : Bool) (a b : Ends) → UpTo k a → UpTo k b → UpTo k (cond f a (cond s b (hull_of a b)))
 choice_up_to k true s a b u v = u
 choice_up_to k false true a b u v = v
@@ -51,7 +51,7 @@ pub chroma_up_to : (n : ℕ) (a b : Ends) → 0 < n → MagnitudeUpTo (1000 * n)
 unfolding chroma_at
 chroma_up_to n a b some s t = sqrt_up_to n (1415 * n) (2 * 10 ^ 6 * n) (chroma_square n a b) (omega arith) (chroma_square_up_to n a b some s t)
 
--- a root that lies above 0 does not lie near it
+-- a square root that lies above 0 is at least 1000 n-ths
 pub root_far : (n : ℕ) (x : Ends) → 10 ^ 6 ≤ n → pos 0 <ℤ (sqrt_at n x).lo → pos 1000 ≤ℤ (sqrt_at n x).lo
 unfolding sqrt_at
 root_far n x large above =
@@ -121,7 +121,7 @@ pub second_form_up_to : (n : ℕ) (a b c1 : Ends) → 10 ^ 6 ≤ n → UpTo n (c
 unfolding second_form
 second_form_up_to n a b c1 large u = form_up_to n (3 * n / 4) (n / 4) 56 2 (cosine_magnitude n (along_12 n a b) c1) (omega arith) (omega arith) (omega arith) u
 
--- what is left of one
+-- one less an interval from 0 to 1
 pub rest_up_to : (n : ℕ) (a : Ends) → UpTo n a → UpTo n (difference_of (one_at n) a)
 unfolding difference_of one_at
 rest_up_to n a u = let p = u.not_negative in let o = u.ordered in let b = u.below in record { not_negative = omega (arith, ints); ordered = omega (arith, ints); below = omega (arith, ints) }

@@ -76,7 +76,7 @@ chroma_weight_encloses n m c c' some finer z p = sum_encloses m _ _ _ _ (ratio_e
 
 -- ---- F
 
--- the share as one of the quotients that rise
+-- the share x / (x + 1900) in the form k t / (a + b t)
 share_is : (n : ℕ) (x : Ends) → fourth_power_share n x ≡ share_of 1 1900 1 n x
 unfolding fourth_power_share
 share_is n x = λ i. record { lo = floor_over (pos (numerator (unsigned_abs x.lo) i)) (denominator (unsigned_abs x.lo) i); hi = ceil_over (pos (numerator (unsigned_abs x.hi) i)) (denominator (unsigned_abs x.hi) i) }

@@ -1,4 +1,4 @@
--- Quotients of natural numbers, rounded outwards, and those that rise with the ends that they are taken of.
+-- Quotients of natural numbers, rounded outwards, and quotients k t / (a + b t), which rise with t.
 use Rattle.std.proofs.Common.{ℕ, pos, ◌+◌, ◌*◌, ◌≤◌, ◌<◌, ◌*ℤ◌, ◌≤ℤ◌, unsigned_abs, arith, mul-le-mul_left, mul-pos}
 use Rattle.std.proofs.lemmas.Int.{ints}
 use Rattle.interval_specs.specs.Ends.{Ends}
@@ -26,7 +26,7 @@ quotients_enclose m z d y e z' d' y' e' p q p' q' low high across =
       ordered = quotients_in_order z' y' d' e' p' q' across;
     }
 
--- k t / (a + b t) of both ends t, as quotients of whole numbers
+-- k t / (a + b t) at both ends t of an interval, as quotients of whole numbers
 abbrev pub share_of : (k a b n : ℕ) → Ends → Ends
 share_of k a b n x =
     record {

@@ -8,7 +8,7 @@ use Rattle.interval_specs.specs.Operations.{cut_low_at, difference_of, fraction_
 use Rattle.interval_specs.proofs.Ranges.{magnitude_of_up_to, up_to_wider, fraction_up_to, square_up_to, sum_up_to, difference_magnitude, magnitude_wider, quotient_magnitude, quotient_up_to, positive, low_magnitude_at_least}
 use Rattle.cmc_specs.proofs.LeastValues.{lightness_divisor_at_least, chroma_divisor_at_least, hue_weight_square_at_least}
 
--- a weight by its tenths
+-- an interval times a weight that is given in tenths
 pub tenths_up_to : (k n w : ℕ) (a : Ends) → w ≤ 100 → UpTo (k * n) a → UpTo (k * 10 * n) (fraction_of w 10 a)
 tenths_up_to k n w a few u = let m = mul-le-mul_left (k * n) few in fraction_up_to (k * n) (k * 10 * n) w 10 a (lit< tt) (omega arith) u
 

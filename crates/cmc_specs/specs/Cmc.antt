@@ -1,5 +1,5 @@
--- The CMC(l:c) colour difference of ISO 105-J03, of a standard and a sample that are each L, a and b as intervals, at
--- every scale n. Index 1 is the standard, and each formula is evaluated in the order in which it is written.
+-- The CMC(l:c) colour difference of ISO 105-J03, at every scale n. The standard and the sample are each given by L, a and
+-- b as intervals. Index 1 is the standard, and each formula is evaluated in the order in which it is written.
 use Rattle.std.specs.Prelude.{ℕ, ◌+◌, ◌*◌, ◌^◌, pos, Bool, ◌&&◌, ◌||◌, ◌==◌, int_le, int_lt, if◌then◌else◌, unsigned_abs}
 use Rattle.interval_specs.specs.Ends.{Ends, one_at}
 use Rattle.interval_specs.specs.Rounding.{floor_over, ceil_over}
@@ -9,7 +9,7 @@ use Rattle.cielab_bounds.specs.Cielab.{LabEnds}
 
 -- ---- constants
 
--- a number that lies from low to low + 1, both over 10^12
+-- the interval, at scale n, of a number that lies from low / 10^12 to (low + 1) / 10^12
 unfoldable pub bracket : ℕ → ℕ → Ends
 bracket n low = record { lo = floor_over (pos (low * n)) (10 ^ 12); hi = ceil_over (pos ((low + 1) * n)) (10 ^ 12) }
 
@@ -43,7 +43,7 @@ sin16 n = bracket n 275637355816
 unfoldable pub chroma_square : ℕ → Ends → Ends → Ends
 chroma_square n a b = sum_of (square_at n a) (square_at n b)
 
--- C, the root of it
+-- C, the square root of C^2
 unfoldable pub chroma_at : ℕ → Ends → Ends → Ends
 chroma_at n a b = sqrt_at n (chroma_square n a b)
 
@@ -56,7 +56,7 @@ lightness_numerator n t = 40975 * t * n
 abbrev pub lightness_denominator : ℕ → ℕ → ℕ
 lightness_denominator n t = 10 ^ 6 * n + 17650 * t
 
--- the same of both ends of L1, which are raised to 16
+-- S_L from L1 = 16 on: that quotient at both ends of L1, each raised to 16 where it lies below
 unfoldable pub high_weight : ℕ → Ends → Ends
 high_weight n l1 = raised (cut_low_at n (pos 16) l1)
   where
@@ -67,7 +67,7 @@ high_weight n l1 = raised (cut_low_at n (pos 16) l1)
           hi = ceil_over (pos (lightness_numerator n (unsigned_abs t.hi))) (lightness_denominator n (unsigned_abs t.hi));
         }
 
--- 0.511, below L1 = 16
+-- S_L below L1 = 16: 0.511
 abbrev pub low_weight : ℕ → Ends
 low_weight n = ratio_at n (pos 511) 1000
 
@@ -77,7 +77,7 @@ is_light n l1 = int_le (pos (16 * n)) l1.lo
 abbrev pub is_dark : ℕ → Ends → Bool
 is_dark n l1 = int_lt l1.hi (pos (16 * n))
 
--- S_L: where it is not decided on which side of 16 L1 lies, both
+-- S_L; where L1 has ends on both sides of 16, it is the hull of both forms
 unfoldable pub lightness_weight : ℕ → Ends → Ends
 lightness_weight n l1 =
     if is_light n l1 then high_weight n l1
@@ -114,7 +114,7 @@ fourth_power_share n x =
       hi = ceil_over (pos (unsigned_abs x.hi * n)) (unsigned_abs x.hi + 1900 * n);
     }
 
--- F, the root of C1^4 / (C1^4 + 1900), from C1^2
+-- F, the square root of C1^4 / (C1^4 + 1900), from C1^2
 unfoldable pub hue_share : ℕ → Ends → Ends
 hue_share n p1 = sqrt_at n (fourth_power_share n (square_at n p1))
 
@@ -128,7 +128,7 @@ along_35 n a b = difference_of (product_at n a (cos35 n)) (product_at n b (sin35
 unfoldable pub along_12 : ℕ → Ends → Ends → Ends
 along_12 n a b = sum_of (product_at n a (cos12 n)) (product_at n b (sin12 n))
 
--- the magnitude of a cosine, from its product with the chroma: any from 0 to 1 where the chroma may be 0
+-- the magnitude of a cosine, from w, its product with the chroma: the interval from 0 to 1 where the chroma may be 0
 unfoldable pub cosine_magnitude : ℕ → Ends → Ends → Ends
 cosine_magnitude n w c1 =
     if unsigned_abs c1.lo == 0 then record { lo = pos 0; hi = pos n }
@@ -155,7 +155,7 @@ is_outside p r = int_lt (pos 0) p.lo && int_lt (pos 0) r.lo
 abbrev pub is_inside : Ends → Ends → Bool
 is_inside p r = int_le p.hi (pos 0) || int_le r.hi (pos 0)
 
--- T: where it is not decided on which side of the two hues the standard lies, both
+-- T; where it is uncertain whether the hue lies outside 164 to 345 degrees, it is the hull of both forms
 unfoldable pub hue_factor : ℕ → Ends → Ends → Ends → Ends
 hue_factor n a b c1 =
     if is_outside (hue_sum_15 n a b) (hue_sum_16 n a b) then first_form n a b c1
@@ -170,7 +170,7 @@ hue_weight n sc f t = product_at n sc (difference_of (one_at n) (product_at n f 
 
 -- ---- the standard
 
--- what the difference keeps of a standard
+-- the values of a standard that the difference needs
 pub record StandardEnds : Type 0 where
   pub l1 : Ends
   pub a1 : Ends
@@ -214,7 +214,7 @@ hue_difference_square n s q =
 unfoldable pub hue_term : ℕ → StandardEnds → LabEnds → Ends
 hue_term n s q = quotient_at n (hue_difference_square n s q) (square_at n s.sh)
 
--- dE of a standard that is kept
+-- dE of a sample q, from the values of the standard
 unfoldable pub kept_difference : ℕ → (l10 c10 : ℕ) → StandardEnds → LabEnds → Ends
 kept_difference n l10 c10 s q =
     sqrt_at n (sum_of (sum_of (square_at n (lightness_term n l10 s q)) (square_at n (chroma_term n c10 s q))) (hue_term n s q))

@@ -1,3 +1,3 @@
-//! The CMC(l:c) colour difference (ISO 105-J03) of intervals at every scale: definitions and the
-//! laws about them, and no functions.
+//! The CMC(l:c) colour difference (ISO 105-J03) of intervals at every scale. The crate has
+//! definitions and their laws, and no code.
 #![tactic(auto)]

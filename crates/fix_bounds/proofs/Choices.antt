@@ -11,15 +11,15 @@ use Rattle.interval_specs.proofs.Rounds.{floor_far, floor_near_0, ceil_far, ceil
 use Rattle.interval_specs.proofs.Ranges.{product_small, lo_small, hi_small, magnitude_of_up_to, absolute_up_to}
 use Rattle.fix_bounds.proofs.Passed.{passed}
 
--- a product of two numbers no larger than two intervals whose product has room
+-- a product has room where two intervals of at least these magnitudes have one with room
 corner_small : (a b : Ends) (x y : ℤ) → magnitude_of a * magnitude_of b ≤ 10 ^ 37 → unsigned_abs x ≤ magnitude_of a → unsigned_abs y ≤ magnitude_of b → unsigned_abs (x *ℤ y) ≤ 10 ^ 37
 corner_small a b x y h p q = le_trans (product_small x y (magnitude_of a) (magnitude_of b) p q) h
 
--- the magnitudes of two divisors above 0 stand in the order of the divisors
+-- the magnitudes of two divisors above 0 have the order of the divisors
 magnitudes_ordered : (c d : ℤ) → pos 0 <ℤ c → c ≤ℤ d → unsigned_abs c ≤ unsigned_abs d
 magnitudes_ordered c d p q = omega (arith, ints)
 
--- what a test on a value that is passed says of the value
+-- what a test on a value that is passed on shows of the value
 not_negative : (x : ℤ) → FitsSigned w128 x → le_z (pos 0) (passed x) ≡ true → pos 0 ≤ℤ x
 not_negative x f t = let s : le_z (pos 0) x ≡ true = sym (ap (le_z (pos 0)) (to_z-of_z w128 x f)) ∙ t in omega (arith, ints)
 

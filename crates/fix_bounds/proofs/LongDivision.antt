@@ -10,7 +10,7 @@ high_of x = x / 18446744073709551616
 abbrev pub low_of : ℕ → ℕ
 low_of x = x % 18446744073709551616
 
--- what is divided at the second, third and fourth step: the last remainder with the next digit behind it
+-- the dividend of the second, third and fourth step: the last remainder followed by the next digit
 abbrev pub second_of : ℕ → ℕ → ℕ
 second_of n x = high_of x % n * 16777216 + low_of x / 1099511627776
 
@@ -24,7 +24,7 @@ fourth_of n x = third_of n x % n * 65536 + low_of x % 65536
 abbrev pub rest_of : ℕ → ℕ → ℕ
 rest_of n x = second_of n x / n * 1099511627776 + third_of n x / n * 65536 + fourth_of n x / n
 
--- a remainder with a digit behind it has a quotient of one digit
+-- a remainder followed by a digit has a quotient of one digit
 digit : (n r d b : ℕ) → 0 < n → r < n → d < b → (r * b + d) / n < b
 digit n r d b some h k = div_below (r * b + d) n b some (omega (arith, mul-le-mul_right b (add-one-le h)))
 

@@ -1,4 +1,4 @@
--- A signed value that code computes and passes on is written as bits and read again: here is what it is then.
+-- A signed value that code computes and passes on is stored as bits and read again: these lemmas say that it is unchanged.
 use Rattle.std.proofs.Common.{ℕ, ℤ, pos, arith, ◌≡◌, ◌<◌, ◌≤◌, ◌^◌, ◌∙◌, ap, subst, sym, ◌*ℤ◌, ◌+ℤ◌, ◌-ℤ◌, neg_ℤ, FitsSigned, unsigned_abs, lt_of_le_of_lt}
 use Rattle.std.proofs.lemmas.Int.{to_z-of_z, ints, fits_signed_from_abs}
 use Rattle.std.specs.Int.{w64, w128, int_min, int_max}
@@ -13,7 +13,7 @@ passed z = to_z w128 (of_z w128 z)
 pub passed_is : (z : ℤ) → mag z < 2 ^ 127 → passed z ≡ z
 passed_is z h = to_z-of_z w128 z (record { sfits = h })
 
--- a call's result that is known to be z
+-- the result of a call, where it is known to be z
 pub read : (r z : ℤ) → mag r < 2 ^ 127 → r ≡ z → passed r ≡ z
 read r z h e = passed_is r h ∙ e
 
@@ -50,7 +50,7 @@ read_min m r s x y h e p q = read m (int_min x y) h (e ∙ (λ i. int_min (p i) 
 pub read_max : (m r s x y : ℤ) → mag m < 2 ^ 127 → m ≡ int_max r s → r ≡ x → s ≡ y → passed m ≡ int_max x y
 read_max m r s x y h e p q = read m (int_max x y) h (e ∙ (λ i. int_max (p i) (q i)))
 
--- a value turned round
+-- the negative of a value
 zero_minus : (z : ℤ) → pos 0 -ℤ z ≡ neg_ℤ z
 zero_minus z = omega (arith, ints)
 

@@ -16,7 +16,7 @@ quotient_is z n p q some = (λ i. int_div_euclid (to_z-of_z w128 z p i) (to_z-of
 pub passed_product : (f n : ℤ) → FitsSigned w128 f → FitsSigned w128 n → passed f *ℤ passed n ≡ f *ℤ n
 passed_product f n p q = λ i. to_z-of_z w128 f p i *ℤ to_z-of_z w128 n q i
 
--- what `ceil_after` is given: f is the floor of z over n
+-- the input of `ceil_after`: f is the floor of z over n
 pub record Given (f z n : ℤ) : Type 0 where
   pub f_fits : FitsSigned w128 f
   pub z_fits : FitsSigned w128 z

@@ -37,7 +37,7 @@ unit_below z r n f t e =
     let test : le_z (pos 0) z ≡ false = sym (ap (le_z (pos 0)) is) ∙ t in
     ap (λ x. passed (negsuc 0 -ℤ to_z w128 x)) (e ∙ ap (λ x. unsigned_abs (passed (negsuc 0 -ℤ x)) / n) is) ∙ below_is z n f (omega (arith, ints))
 
--- the floor of the negative leaves room, and turned round it is the ceiling
+-- the floor of the negative leaves room, and its negative is the ceiling
 neg_room : (z : ℤ) (n : ℕ) → 0 < n → unsigned_abs z ≤ 10 ^ 37 → unsigned_abs (floor_over (neg_ℤ z) n) ≤ 10 ^ 37
 neg_room z n some h =
     let t : unsigned_abs (neg_ℤ z) ≤ 10 ^ 37 = omega (arith, ints) in

@@ -1,7 +1,7 @@
 -- When two quotients by one divisor can be rounded outwards and held.
 use Rattle.std.specs.Prelude.{ℤ, pos, ◌*◌, ◌^◌, ◌≤◌, ◌≤ℤ◌, ◌<ℤ◌, unsigned_abs}
 
--- both dividends leave room, stand in order, and are small beside the divisor
+-- both dividends leave room, are in order, and are small in proportion to the divisor
 pub record CanRound (low high by : ℤ) : Type 0 where
   pub positive : pos 0 <ℤ by
   pub ordered : low ≤ℤ high

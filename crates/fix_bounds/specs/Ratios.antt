@@ -11,7 +11,7 @@ pub record RatioEnds : Type 0 where
   pub y : Ends
   pub z : Ends
 
--- the three of a value of the code
+-- the intervals of a value of the code
 abbrev pub ratio_ends : {S : Type 0} {g : Ghosts S} → Ratios S g → RatioEnds
 ratio_ends r = record { x = r.x; y = r.y; z = r.z }
 

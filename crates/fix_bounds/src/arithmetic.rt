@@ -9,7 +9,7 @@ use crate::interval::Iv;
 use crate::scale::Scale;
 
 impl<S: Scale> Iv<S> {
-    /// The sum of the two.
+    /// The sum of the two intervals.
     pub fn add(self, other: Iv<S>) -> Iv<S>
         requires { magnitude_of self + magnitude_of other ≤ 10 ^ 25 }
         ensures is { result ≡ sum_of self other }
@@ -18,7 +18,7 @@ impl<S: Scale> Iv<S> {
         Self::of_ends(self.lo() + other.lo(), self.hi() + other.hi())
     }
 
-    /// The difference of the two.
+    /// The difference of the two intervals.
     pub fn sub(self, other: Iv<S>) -> Iv<S>
         requires { magnitude_of self + magnitude_of other ≤ 10 ^ 25 }
         ensures is { result ≡ difference_of self other }
@@ -27,7 +27,7 @@ impl<S: Scale> Iv<S> {
         Self::of_ends(self.lo() - other.hi(), self.hi() - other.lo())
     }
 
-    /// The product of the two.
+    /// The product of the two intervals.
     pub fn mul(self, other: Iv<S>) -> Iv<S>
         requires { magnitude_of self * magnitude_of other ≤ 10 ^ 25 * S.unit }
         ensures is { result ≡ product_at S.unit self other }
@@ -37,7 +37,7 @@ impl<S: Scale> Iv<S> {
         Self::of_ends(floor_unit::<S>(least), ceil_unit::<S>(greatest))
     }
 
-    /// The quotient of the two. The divisor lies above 0.
+    /// The quotient of the two intervals. The divisor lies above 0.
     pub fn div(self, by: Iv<S>) -> Iv<S>
         requires positive { pos 0 <ℤ by.lo }
         requires magnitude { magnitude_of self * S.unit ≤ 10 ^ 25 * unsigned_abs by.lo }
@@ -51,7 +51,7 @@ impl<S: Scale> Iv<S> {
         Self::of_ends(least, greatest_quotient(high, near, far))
     }
 
-    /// The square.
+    /// The square of the interval: all squares of its numbers.
     pub fn square(self) -> Iv<S>
         requires { magnitude_of self * magnitude_of self ≤ 10 ^ 25 * S.unit }
         ensures is { result ≡ square_at S.unit self }
@@ -78,7 +78,7 @@ impl<S: Scale> Iv<S> {
         Self::of_ends(one.min(other), one.max(other))
     }
 
-    /// The fraction `num / den` of the interval.
+    /// The interval times the fraction `num / den`.
     pub fn ratio_up(self, num: u64, den: u64) -> Iv<S>
         requires positive { 0 < den }
         requires room { magnitude_of self * num ≤ 10 ^ 37 }
@@ -91,7 +91,7 @@ impl<S: Scale> Iv<S> {
         Self::rounded(low, high, i128::from(den))
     }
 
-    /// The magnitude.
+    /// The absolute value of the interval: all magnitudes of its numbers.
     pub fn abs(self) -> Iv<S>
         ensures is { result ≡ absolute_of self }
         ensures held { IsHeld result }
@@ -107,7 +107,7 @@ impl<S: Scale> Iv<S> {
         }
     }
 
-    /// The interval with both ends raised to the whole number `k` where they lie below it.
+    /// The interval with each end that lies below the whole number `k` raised to it.
     pub fn cut_low(self, k: i64) -> Iv<S>
         requires { unsigned_abs k ≤ 10 ^ 6 }
         ensures is { result ≡ cut_low_at S.unit k self }
@@ -117,7 +117,7 @@ impl<S: Scale> Iv<S> {
         Self::of_ends(self.lo().max(level), self.hi().max(level))
     }
 
-    /// The interval with both ends lowered to the whole number `k` where they lie above it.
+    /// The interval with each end that lies above the whole number `k` lowered to it.
     pub fn cut_high(self, k: i64) -> Iv<S>
         requires { unsigned_abs k ≤ 10 ^ 6 }
         ensures is { result ≡ cut_high_at S.unit k self }

@@ -1,5 +1,6 @@
 //! Division by the unit of a scale without a 128-bit division, which is a slow call. The unit is a
-//! constant below 2^40, so each step on 64-bit digits is a multiplication.
+//! constant below 2^40, so that each step divides 64-bit numbers by a constant, for which the
+//! compiler multiplies.
 ghost use Rattle.std.specs.Prelude.{◌≡◌, ℕ, ◌/◌, ◌^◌, ◌≤◌, unsigned_abs};
 ghost use Rattle.interval_specs.specs.Rounding.{floor_over, ceil_over};
 

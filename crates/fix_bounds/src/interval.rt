@@ -8,8 +8,8 @@ use crate::rounds::{ceil, ceil_after, floor};
 use crate::scale::Scale;
 use std::marker::{Model, PhantomData};
 
-/// An interval whose ends count parts of the scale `S`. Its ends are in order, and their magnitudes
-/// at most 10^25.
+/// An interval whose ends count parts of the scale `S`: each part is 1 / `UNIT`. Its ends are in
+/// order, and their magnitudes at most 10^25.
 #[derive(Clone, Copy)]
 pub struct Iv<S: Scale> {
     lo: i128,
@@ -78,8 +78,8 @@ impl<S: Scale> Iv<S> {
         self.hi
     }
 
-    /// The quotients of both dividends by `by`, rounded outwards, by one division where they are
-    /// equal.
+    /// The interval from `low / by`, rounded down, to `high / by`, rounded up. Where the two
+    /// dividends are equal it takes one division.
     pub(crate) fn rounded(low: i128, high: i128, by: i128) -> Iv<S>
         requires { CanRound low high by }
         ensures is { let n = unsigned_abs by in

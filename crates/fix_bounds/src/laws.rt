@@ -1,5 +1,5 @@
-//! The law of each operation: it keeps enclosing where the scale grows and its inputs narrow. A
-//! call does nothing; what it ensures is the law.
+//! The law of each operation: its result encloses the one that it has at a finer scale on narrower
+//! inputs. A call does nothing; what it ensures is the law.
 ghost use Rattle.interval_specs.specs.Laws.{RatioEncloses, SumEncloses, DifferenceEncloses, ProductEncloses, QuotientEncloses, SquareEncloses, MultipleEncloses, FractionEncloses, AbsoluteEncloses, CutLowEncloses, CutHighEncloses, HullEncloses};
 
 /// The law of [`Iv::of_ratio`](crate::Iv::of_ratio).

@@ -10,7 +10,7 @@ pub trait Scale: Copy {
 
     ghost UNIT: { ℤ };
 
-    // the same as a natural number, which the clauses cite
+    // `UNIT` as a natural number, which the contracts cite
     ghost unit: { ℕ };
 
     ghost unit_is: { UNIT ≡ pos unit };
@@ -32,7 +32,7 @@ pub fn unit<S: Scale>() -> u64
     S::UNIT as u64
 }
 
-/// The scale of everything that is printed or decided: millionths of millionths.
+/// The scale of everything that is printed or decided: each part is 10^-12.
 #[derive(Clone, Copy)]
 pub struct Base;
 
@@ -52,7 +52,7 @@ impl Scale for Base {
     ghost divides = { dvd-mul_right (10 ^ 12) 1 };
 }
 
-/// A coarser scale, whose numbers are shorter: hundredths of millionths.
+/// A coarser scale, whose numbers are shorter: each part is 10^-8.
 #[derive(Clone, Copy)]
 pub struct Quick;
 

@@ -1,11 +1,11 @@
--- What is held: the ends of a result put together, and the roots of held intervals.
+-- Results that satisfy IsHeld: intervals made of two ends, and the roots of held intervals.
 use Rattle.std.proofs.Common.{ℕ, ℤ, pos, ◌≡◌, ◌*◌, ◌≤◌, ◌≤ℤ◌, unsigned_abs, subst, arith, sym, ◌^◌, ◌∙◌, mul-le-mul}
 use Rattle.std.proofs.lemmas.Int.{ints}
 use Rattle.interval_specs.specs.Ends.{Ends, IsHeld}
 use Rattle.interval_specs.specs.Roots.{square, cube, sqrt_at, cbrt_at}
 use Rattle.interval_specs.proofs.Roots.{square_power, cube_power, below_le_above, magnitudes_in_order, sqrt_magnitude, cbrt_magnitude}
 
--- the ends of an interval e
+-- two numbers that are the ends of e make up e
 pub same_ends : (x y : ℤ) (e : Ends) → x ≡ e.lo → y ≡ e.hi → record { lo = x; hi = y } ≡ e
 same_ends x y e p q = λ i. record { lo = p i; hi = q i }
 

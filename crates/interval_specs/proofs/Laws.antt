@@ -1,4 +1,4 @@
--- The laws of all operations, in one place, with what enclosing and a decided test give by themselves.
+-- The laws of all operations, and what follows from enclosing and from a decided test alone.
 mod Enclosing
 mod Ratios
 mod Sums

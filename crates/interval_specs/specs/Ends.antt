@@ -18,11 +18,11 @@ nothing = record { lo = pos 0; hi = pos 0 }
 abbrev pub magnitude_of : Ends → ℕ
 magnitude_of a = max (unsigned_abs a.lo) (unsigned_abs a.hi)
 
--- the ends stand in order
+-- the ends are in order
 abbrev pub IsOrdered : Ends → Type 0
 IsOrdered a = a.lo ≤ℤ a.hi
 
--- what the code's type of intervals keeps: ends in order, and a magnitude that leaves room in 128 bits
+-- the invariant of the code's type of intervals: ends in order, and a magnitude that leaves room in 128 bits
 pub record IsHeld (a : Ends) : Type 0 where
   pub ordered : a.lo ≤ℤ a.hi
   pub small : magnitude_of a ≤ 10 ^ 25

@@ -6,7 +6,7 @@ use Rattle.interval_specs.specs.Encloses.{Encloses}
 use Rattle.interval_specs.specs.Roots.{sqrt_at, cbrt_at}
 use Rattle.interval_specs.specs.Operations.{ratio_at, sum_of, difference_of, product_at, quotient_at, square_at, multiple_of, fraction_of, absolute_of, cut_low_at, cut_high_at, hull_of}
 
--- of a ratio, by any divisor: by 0, both ends are those of the sign of p
+-- of a ratio by any divisor; where it is 0, both ends depend only on the sign of p
 abbrev pub RatioEncloses : Type 0
 RatioEncloses = (n m : ℕ) (p : ℤ) (q : ℕ) → Encloses m (ratio_at n p q) (ratio_at (m * n) p q)
 
@@ -43,15 +43,15 @@ FractionEncloses = (m num den : ℕ) (a a' : Ends) → Encloses m a a' → Enclo
 abbrev pub AbsoluteEncloses : Type 0
 AbsoluteEncloses = (m : ℕ) (a a' : Ends) → 0 < m → Encloses m a a' → Encloses m (absolute_of a) (absolute_of a')
 
--- of a cut from below
+-- of a cut from below, that is, of raising an interval to a lower limit
 abbrev pub CutLowEncloses : Type 0
 CutLowEncloses = (n m : ℕ) (k : ℤ) (a a' : Ends) → Encloses m a a' → Encloses m (cut_low_at n k a) (cut_low_at (m * n) k a')
 
--- of a cut from above
+-- of a cut from above, that is, of lowering an interval to an upper limit
 abbrev pub CutHighEncloses : Type 0
 CutHighEncloses = (n m : ℕ) (k : ℤ) (a a' : Ends) → Encloses m a a' → Encloses m (cut_high_at n k a) (cut_high_at (m * n) k a')
 
--- of a hull
+-- of the hull of two intervals
 abbrev pub HullEncloses : Type 0
 HullEncloses = (m : ℕ) (a b a' b' : Ends) → Encloses m a a' → Encloses m b b' → Encloses m (hull_of a b) (hull_of a' b')
 

@@ -45,7 +45,7 @@ quotient_down n x y = floor_over (x *ℤ pos n) (unsigned_abs y)
 abbrev pub quotient_up : ℕ → ℤ → ℤ → ℤ
 quotient_up n x y = ceil_over (x *ℤ pos n) (unsigned_abs y)
 
--- a / b for a b above 0, at scale n: the least and the greatest quotient of an end of a by an end of b
+-- a / b at scale n, where b is above 0: the least and the greatest quotient of an end of a by an end of b
 unfoldable pub quotient_at : ℕ → Ends → Ends → Ends
 quotient_at n a b =
     record {
@@ -57,7 +57,7 @@ quotient_at n a b =
 abbrev pub holds_zero : Ends → Bool
 holds_zero a = int_le a.lo (pos 0) && int_le (pos 0) a.hi
 
--- the least magnitude of a number between the ends: 0 where they hold 0, else the lesser of the ends' magnitudes
+-- the least magnitude of a number between the ends: 0 where 0 lies between them, else the lesser of their magnitudes
 abbrev pub least_magnitude : Ends → ℕ
 least_magnitude a = if holds_zero a then 0 else (min (unsigned_abs a.lo) (unsigned_abs a.hi))
 
@@ -77,11 +77,11 @@ multiple_of k a = record { lo = int_min (k *ℤ a.lo) (k *ℤ a.hi); hi = int_ma
 unfoldable pub fraction_of : ℕ → ℕ → Ends → Ends
 fraction_of num den a = record { lo = floor_over (a.lo *ℤ pos num) den; hi = ceil_over (a.hi *ℤ pos num) den }
 
--- a with both ends raised to k where they lie below it, at scale n
+-- a at scale n, with each end that lies below k raised to k
 unfoldable pub cut_low_at : ℕ → ℤ → Ends → Ends
 cut_low_at n k a = record { lo = int_max a.lo (k *ℤ pos n); hi = int_max a.hi (k *ℤ pos n) }
 
--- a with both ends lowered to k where they lie above it, at scale n
+-- a at scale n, with each end that lies above k lowered to k
 unfoldable pub cut_high_at : ℕ → ℤ → Ends → Ends
 cut_high_at n k a = record { lo = int_min a.lo (k *ℤ pos n); hi = int_min a.hi (k *ℤ pos n) }
 

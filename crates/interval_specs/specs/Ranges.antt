@@ -1,8 +1,8 @@
--- Ranges of intervals, for the conditions of calls.
+-- Ranges of intervals, as contracts require and ensure them.
 use Rattle.std.specs.Prelude.{ℕ, pos, ◌*◌, ◌*ℤ◌, ◌≤◌, ◌≤ℤ◌}
 use Rattle.interval_specs.specs.Ends.{Ends, magnitude_of}
 
--- a is in order and no larger than k
+-- a is in order, and its magnitude is at most k
 pub record MagnitudeUpTo (k : ℕ) (a : Ends) : Type 0 where
   pub ordered : a.lo ≤ℤ a.hi
   pub small : magnitude_of a ≤ k

@@ -1,4 +1,4 @@
--- Square roots and cube roots, each by its inequality, and those of an interval.
+-- Square and cube roots of natural numbers, defined by inequalities, and those of intervals.
 use Rattle.std.specs.Prelude.{ℕ, zero, suc, ◌*◌, pos, nat_le, if◌then◌else◌, unsigned_abs}
 use Rattle.interval_specs.specs.Ends.{Ends}
 
@@ -8,7 +8,7 @@ square r = r * r
 abbrev pub cube : ℕ → ℕ
 cube r = r * r * r
 
--- the greatest number of at most k whose power is at most n
+-- the greatest number up to k whose power is at most n
 unfoldable pub greatest_upto : (ℕ → ℕ) → ℕ → ℕ → ℕ
 greatest_upto power zero n = 0
 greatest_upto power (suc k) n = if nat_le (power (suc k)) n then suc k else greatest_upto power k n

@@ -1,3 +1,4 @@
-//! What outward interval arithmetic over whole numbers means: the operations at every scale,
-//! enclosing, and the laws that tie the two. It has definitions and lemmas, and no code.
+//! Interval arithmetic over whole numbers with outward rounding: definitions of its operations at
+//! every scale and of one interval enclosing another, and the laws that connect them. The crate has
+//! definitions and lemmas, and no code.
 #![tactic(auto)]

@@ -1,4 +1,4 @@
--- Cubes rise: so a root is the greatest or the least of its kind.
+-- Cubes rise, so that a root is the greatest or the least of its kind.
 use Rattle.std.proofs.Common.{ℕ, ◌≡◌, ◌+◌, ◌*◌, ◌≤◌, ◌<◌, arith, mul-le-mul, ⊎_elim}
 use Rattle.std.proofs.lemmas.Bool.{cases_lt}
 

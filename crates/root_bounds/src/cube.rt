@@ -20,7 +20,8 @@ pub fn cbrt_floor(x: u128) -> u128
     }
 }
 
-/// The same, where the guess is wrong: mostly it is one too small.
+/// The greatest number whose cube is at most x, where the guess `near` is wrong: mostly it is one
+/// too small.
 #[tactic(auto, using(crate::proofs::Cubes::cube_greatest))]
 #[cold]
 #[inline(never)]

@@ -33,7 +33,8 @@ pub fn cbrt_iv<S: Scale>(x: Iv<S>) -> Iv<S>
     Iv::of_ends(below as i128, above as i128)
 }
 
-/// What a square root is taken of: an end that is not below 0, times the scale's unit.
+/// The number under the square root of an end: the end, which is not below 0, times the scale's
+/// unit.
 fn times_unit<S: Scale>(end: i128) -> u128
     requires not_below { pos 0 ≤ℤ end }
     requires magnitude { unsigned_abs end ≤ 10 ^ 25 }
@@ -42,7 +43,8 @@ fn times_unit<S: Scale>(end: i128) -> u128
     end as u128 * u128::from(unit::<S>())
 }
 
-/// What a cube root is taken of: an end that is not below 0, times the square of the scale's unit.
+/// The number under the cube root of an end: the end, which is not below 0, times the square of the
+/// scale's unit.
 fn times_unit_twice<S: Scale>(end: i128) -> u128
     requires { unsigned_abs end ≤ 10 * S.unit }
     ensures { result ≡ unsigned_abs end * (S.unit * S.unit) }
@@ -50,8 +52,8 @@ fn times_unit_twice<S: Scale>(end: i128) -> u128
     cbrt_radicand::<S>(end.unsigned_abs())
 }
 
-/// What the cube root of `t` parts of the scale is taken of: `t` times the square of the scale's
-/// unit. The root is then counted in parts, too.
+/// The number whose whole cube root is the cube root of `t` parts of the scale, counted in parts:
+/// `t` times the square of the scale's unit.
 pub fn cbrt_radicand<S: Scale>(t: u128) -> u128
     requires { t ≤ 10 * S.unit }
     ensures { result ≡ t * (S.unit * S.unit) }

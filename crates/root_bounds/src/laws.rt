@@ -1,5 +1,5 @@
-//! The law of each root: it keeps enclosing where the scale grows and its input narrows. A call
-//! does nothing; what it ensures is the law.
+//! The law of each root: its result encloses the one that it has at a finer scale on a narrower
+//! input. A call does nothing; what it ensures is the law.
 ghost use Rattle.interval_specs.specs.Laws.{SqrtEncloses, CbrtEncloses};
 
 /// The law of [`sqrt_iv`](crate::sqrt_iv).

@@ -1,9 +1,10 @@
-//! A guess at a cube root. Nothing is claimed of it: who calls it tests what it gives.
+//! A guess at a cube root. Nothing is proved of it: its caller tests the guess.
 
 use crate::tables::CUBE_RECIPROCALS;
 use crate::words::{high_product, low_word};
 
-/// A guess at the floored cube root: exact, or one less, as for whole cubes; unproved.
+/// A guess at the cube root rounded down. It is meant to be exact or one less, as for whole cubes;
+/// this is not proved.
 #[inline(always)]
 pub(crate) fn near_cube_root(x: u128) -> u64 {
     // x is v * 8^third with v from 1/8 to 1
@@ -11,7 +12,7 @@ pub(crate) fn near_cube_root(x: u128) -> u64 {
     near_root(head_of(x, 3 * third)).wrapping_shr(64_u32.wrapping_sub(third))
 }
 
-/// The number as 2^64 v, where it is v * 2^bits.
+/// 2^64 v, where x is 2^bits v.
 fn head_of(x: u128, bits: u32) -> u64 {
     if bits >= 64 {
         low_word(x.wrapping_shr(bits - 64))
@@ -20,9 +21,9 @@ fn head_of(x: u128, bits: u32) -> u64 {
     }
 }
 
-/// The cube root of v times 2^64, where `head` is 2^64 v and v lies from 1/8 to 1: too small by a
-/// part of 2^-54 at most. Its reciprocal is that of a cubic, and one step of Newton, r + (v - r^3)
-/// / (3 r^2), gives the root.
+/// The cube root of v times 2^64, where `head` is 2^64 v and v lies from 1/8 to 1: it is too small
+/// by at most about 2^-53 of its value. A cubic approximates the reciprocal of the root, and one
+/// step of Newton's method, r + (v - r^3) / (3 r^2), improves the root r.
 #[inline(always)]
 fn near_root(head: u64) -> u64 {
     let upper = head >> 32;

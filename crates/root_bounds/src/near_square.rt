@@ -1,9 +1,10 @@
-//! A guess at a square root. Nothing is claimed of it: who calls it tests what it gives.
+//! A guess at a square root. Nothing is proved of it: its caller tests the guess.
 
 use crate::tables::SQUARE_RECIPROCALS;
 use crate::words::low_word;
 
-/// A guess at the floored square root: exact, or one less, as for whole squares; unproved.
+/// A guess at the square root rounded down. It is meant to be exact or one less, as for whole
+/// squares; this is not proved.
 #[inline(always)]
 pub(crate) fn near_square_root(x: u128) -> u64 {
     let upper = low_word(x >> 64);
@@ -23,13 +24,13 @@ pub(crate) fn near_square_root(x: u128) -> u64 {
     if upper == 0 { root >> 32 } else { root >> 22 }
 }
 
-/// The same of a number of more than 84 bits.
+/// A guess at the square root, rounded down, of a number of more than 84 bits.
 #[inline(always)]
 fn near_long_root(x: u128) -> u64 {
     let shift = x.leading_zeros() & 62;
     let scaled = x.wrapping_shl(shift);
     let Near { root, reciprocal } = Near::of(low_word(scaled >> 64));
-    // what is left, over twice the root
+    // the remainder over twice the root
     let square = u128::from(root).wrapping_mul(u128::from(root));
     let left = low_word(scaled.wrapping_sub(square) >> 49);
     let more = left.wrapping_mul(reciprocal) >> 47;
@@ -37,7 +38,8 @@ fn near_long_root(x: u128) -> u64 {
 }
 
 /// The square root of v times 2^64 and its reciprocal times 2^31, where v lies from 1/4 to 1. Both
-/// are a little too small, the root by a part of 2^-46 at most and the reciprocal by one of 2^-23.
+/// are a little too small: the root by at most 2^-46 of its value, the reciprocal by 2^-23 of its
+/// own.
 #[derive(Clone, Copy)]
 struct Near {
     root: u64,
@@ -45,8 +47,8 @@ struct Near {
 }
 
 impl Near {
-    /// From 2^64 v. The reciprocal is that of a parabola, and one step of Newton, r + (v - r^2) /
-    /// (2 r), gives the root.
+    /// The root and its reciprocal from `head`, which is 2^64 v. A parabola approximates the
+    /// reciprocal, and one step of Newton's method, r + (v - r^2) / (2 r), improves the root r.
     #[inline(always)]
     fn of(head: u64) -> Near {
         let upper = head >> 32;

@@ -16,7 +16,8 @@ pub fn sqrt_floor(x: u128) -> u128
     }
 }
 
-/// The same, where the guess is wrong: mostly it is one too small.
+/// The greatest number whose square is at most x, where the guess `near` is wrong: mostly it is one
+/// too small.
 #[cold]
 #[inline(never)]
 fn sqrt_beside(near: u64, x: u128) -> u128

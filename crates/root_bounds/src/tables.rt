@@ -1,4 +1,4 @@
-//! The tables of the guesses at roots. `bench/root_tables.rs` prints them; nothing is claimed of
+//! The tables of the guesses at roots. `bench/root_tables.rs` prints them; nothing is proved of
 //! them.
 
 /// For k from 64 to 255 the parabola just below 1 / sqrt(v), where v goes from k/256 to (k+1)/256:

@@ -2,9 +2,9 @@ use super::*;
 use crate::near_cube::near_cube_root;
 use crate::near_square::near_square_root;
 
-/// A wrong guess costs time and nothing else, so no clause speaks of it: here wrong ones are
-/// counted. Of small numbers, and of whole squares and cubes, the guess may be one too small, which
-/// a second guess mends.
+/// A wrong guess costs only time, so that no contract bounds how many there are; this test counts
+/// them. For small numbers, and for whole squares and cubes, the guess may be one too small, and a
+/// second guess corrects that.
 #[test]
 fn guesses_are_mostly_right(rt: HostRuntime) {
     let mut drawn: u128 = 1;

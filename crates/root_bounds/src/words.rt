@@ -1,4 +1,4 @@
-//! Parts of numbers of 128 bits, for guesses: nothing is claimed.
+//! Parts of 128-bit numbers, for the guesses at roots. Nothing is proved of them.
 
 /// The lower 64 bits.
 #[inline(always)]

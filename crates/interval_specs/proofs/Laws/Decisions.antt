@@ -8,7 +8,7 @@ use Rattle.interval_specs.specs.Operations.{hull_of}
 use Rattle.interval_specs.proofs.Order.{parts, to_parts, mono_left, trans_ℤ, to_parts_lt, by_parts_lt}
 use Rattle.interval_specs.proofs.Laws.Choices.{hull_encloses, hull_first, hull_second}
 
--- an order is a test that passed
+-- where an order holds, its test returns true
 pub lt_test : (a b : ℤ) → a <ℤ b → int_lt a b ≡ true
 lt_test a b h = by (int_lt a b) refl
   where
@@ -40,7 +40,7 @@ both_hold true true e = (refl, refl)
 both_hold true false e = absurd (false≢true e)
 both_hold false t e = absurd (false≢true e)
 
--- ---- an end against a number k that is k' at the finer scale
+-- ---- an end compared with a number k, which is k' at the finer scale
 
 pub still_from : (m k k' : ℕ) (x x' : ℤ) → k' ≡ m * k → (pos m *ℤ x) ≤ℤ x' → pos k ≤ℤ x → pos k' ≤ℤ x'
 still_from m k k' x x' e h p = let q = mono_left m (pos k) x p in trans_ℤ (pos k') (pos m *ℤ x) x' (omega (arith, ints)) h
@@ -54,7 +54,7 @@ still_below m k k' x x' some e h p =
 pub still_not_above_0 : (m : ℕ) (x x' : ℤ) → x' ≤ℤ (pos m *ℤ x) → x ≤ℤ pos 0 → x' ≤ℤ pos 0
 still_not_above_0 m x x' h p = let q = mono_left m x (pos 0) p in trans_ℤ x' (pos m *ℤ x) (pos 0) h (omega (arith, ints))
 
--- two forms, the hull of both where neither is decided: what is decided at the coarse scale is decided alike at the fine one
+-- a choice of two forms, or the hull of both where neither test holds: a test that holds at the coarse scale decides alike at the fine one
 pub choice_encloses : (m : ℕ) (f s f' s' : Bool) (a b a' b' : Ends) → (f ≡ true → f' ≡ true) → (s ≡ true → (s' ≡ true) × (f' ≡ false)) → Encloses m a a' → Encloses m b b' → Encloses m (if f then a else (if s then b else (hull_of a b))) (if f' then a' else (if s' then b' else (hull_of a' b')))
 choice_encloses m true s true s' a b a' b' u v p q = p
 choice_encloses m true s false s' a b a' b' u v p q = let e = u refl in cc

@@ -1,11 +1,11 @@
--- What enclosing gives by itself.
+-- What follows from enclosing alone.
 use Rattle.std.proofs.Common.{ℕ, ℤ, pos, ◌*◌, ◌<◌, ◌*ℤ◌, ◌≤ℤ◌, arith}
 use Rattle.std.proofs.lemmas.Int.{ints}
 use Rattle.interval_specs.specs.Ends.{Ends, IsOrdered, one_at}
 use Rattle.interval_specs.specs.Encloses.{Encloses}
 use Rattle.interval_specs.proofs.Order.{parts, by_parts, to_parts, mono_left, cancel_left, trans_ℤ, refl_ℤ}
 
--- what encloses an interval has its own ends in order
+-- an interval that encloses another has its ends in order
 pub outer_ordered : (m : ℕ) (a b : Ends) → 0 < m → Encloses m a b → IsOrdered a
 outer_ordered m a b some h =
     cancel_left m a.lo a.hi some (trans_ℤ (pos m *ℤ a.lo) b.lo (pos m *ℤ a.hi) h.low (trans_ℤ b.lo b.hi (pos m *ℤ a.hi) h.ordered h.high))

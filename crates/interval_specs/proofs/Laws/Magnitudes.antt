@@ -55,7 +55,7 @@ scaled_below m (negsuc x) (negsuc y) s h = let p = simp parts at (to_parts (negs
 scaled_below m (negsuc x) (pos y) s h = let p = simp parts at (to_parts (pos y) (pos m *ℤ negsuc x) h) in omega arith
 scaled_below m (pos x) y s h = absurd (omega (arith, ints))
 
--- the magnitude of a number within
+-- the magnitude of a number within a, in finer units
 within_magnitude : (m : ℕ) (a : Ends) (x : ℤ) → (pos m *ℤ a.lo) ≤ℤ x → x ≤ℤ (pos m *ℤ a.hi) → unsigned_abs x ≤ m * magnitude_of a
 within_magnitude m a x h k =
     let l : down a.lo ≤ magnitude_of a = omega (arith, down_small a.lo) in
@@ -167,7 +167,7 @@ absolute_above a p o =
     (λ s. ap pos (least_magnitude_around a s (trans_ℤ (pos 0) a.lo a.hi p o)) ∙ antisym_ℤ (pos 0) a.lo p s) in
     λ i. record { lo = low i; hi = greater_above a.lo a.hi p o i }
 
--- one that is not positive is turned round
+-- the magnitude of an interval that is not positive is its negative
 pub absolute_below : (a : Ends) → a.hi ≤ℤ pos 0 → a.lo ≤ℤ a.hi → absolute_of a ≡ record { lo = neg_ℤ a.hi; hi = neg_ℤ a.lo }
 unfolding absolute_of
 absolute_below a p o =
@@ -176,12 +176,12 @@ absolute_below a p o =
     (λ s. ap pos (least_magnitude_around a (trans_ℤ a.lo a.hi (pos 0) o p) s) ∙ ap neg_ℤ (antisym_ℤ (pos 0) a.hi s p)) in
     λ i. record { lo = low i; hi = greater_below a.lo a.hi p o i }
 
--- one that holds 0 begins there
+-- the magnitude of an interval that holds 0 begins at 0
 pub absolute_around : (a : Ends) → a.lo ≤ℤ pos 0 → pos 0 ≤ℤ a.hi → absolute_of a ≡ record { lo = pos 0; hi = int_max a.hi (neg_ℤ a.lo) }
 unfolding absolute_of
 absolute_around a p o = λ i. record { lo = ap pos (least_magnitude_around a p o) i; hi = greater_around a.lo a.hi p o i }
 
--- the square is that of the magnitude
+-- the square of an interval is the square of its magnitude
 pub square_by_magnitude : (n : ℕ) (a : Ends) → square_at n a ≡ record { lo = floor_over ((absolute_of a).lo *ℤ (absolute_of a).lo) n; hi = ceil_over ((absolute_of a).hi *ℤ (absolute_of a).hi) n }
 unfolding square_at absolute_of
 square_by_magnitude n a = refl

@@ -19,7 +19,7 @@ finer_low m p x y h = subst (λ z. (pos (m * m) *ℤ p) ≤ℤ z) (sym (corner_i
 finer_high : (m : ℕ) (p x y : ℤ) → (x *ℤ y) ≤ℤ p → ((pos m *ℤ x) *ℤ (pos m *ℤ y)) ≤ℤ (pos (m * m) *ℤ p)
 finer_high m p x y h = subst (λ z. z ≤ℤ (pos (m * m) *ℤ p)) (sym (corner_is m x y)) (mono_left (m * m) (x *ℤ y) p h)
 
--- the least coarse product, in fine units, is at most each product of two numbers within
+-- the least coarse product, in fine units, is at most each product of a number within a and one within b
 product_low : (m : ℕ) (a b : Ends) (x y : ℤ) → (pos m *ℤ a.lo) ≤ℤ x → x ≤ℤ (pos m *ℤ a.hi) → (pos m *ℤ b.lo) ≤ℤ y → y ≤ℤ (pos m *ℤ b.hi) → (pos (m * m) *ℤ least_product a b) ≤ℤ (x *ℤ y)
 product_low m a b x y p q r s =
     let l = least_product a b in
@@ -70,7 +70,7 @@ products_ordered a b =
     (least_first (a.lo *ℤ b.lo) (a.lo *ℤ b.hi) (a.hi *ℤ b.lo) (a.hi *ℤ b.hi))
     (greatest_first (a.lo *ℤ b.lo) (a.lo *ℤ b.hi) (a.hi *ℤ b.lo) (a.hi *ℤ b.hi))
 
--- a bound by the square of m, with the factor n that the rounding asks for
+-- a bound by the square of m, with the factor n that the lemmas on rounding need
 pub squared_low : (n m : ℕ) (z z' : ℤ) → (pos (m * m) *ℤ z) ≤ℤ z' → (pos (m * (m * n)) *ℤ z) ≤ℤ (pos n *ℤ z')
 squared_low n m z z' h =
     let p = simp parts at (to_parts (pos n *ℤ (pos (m * m) *ℤ z)) (pos n *ℤ z') (mono_left n (pos (m * m) *ℤ z) z' h)) in

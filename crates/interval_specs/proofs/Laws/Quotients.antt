@@ -1,4 +1,4 @@
--- The laws of a quotient by an interval above 0, and of one by nothing.
+-- The laws of a quotient by an interval above 0, and of one by the interval from 0 to 0.
 use Rattle.std.proofs.Common.{ℕ, ℤ, pos, ◌≡◌, ◌*◌, ◌<◌, ◌*ℤ◌, ◌≤ℤ◌, ◌<ℤ◌, unsigned_abs, subst, arith}
 use borrow.Author.Differences.{same_in}
 use Rattle.std.proofs.lemmas.Int.{by_lt_z}
@@ -31,7 +31,7 @@ up_finer n m x x' y y' some some' h =
     ceil_encloses m c c' (x *ℤ pos n) (x' *ℤ pos (m * n)) (magnitude_positive y some) (magnitude_positive y' some')
     (by_parts (pos c *ℤ (x' *ℤ pos (m * n))) (pos (m * c') *ℤ (x *ℤ pos n)) (simp parts (omega arith)))
 
--- m times a product, with the m at either factor
+-- m times a product, with m applied to either factor
 turn : (m : ℕ) (c x : ℤ) → c *ℤ (pos m *ℤ x) ≡ (pos m *ℤ c) *ℤ x
 turn m c x = same_in (c *ℤ (pos m *ℤ x)) ((pos m *ℤ c) *ℤ x) (simp parts (omega arith))
 
@@ -114,7 +114,7 @@ quotient_upper n a b some o u =
     (ceil_mono (a.lo *ℤ pos n) (a.hi *ℤ pos n) (unsigned_abs b.lo) (magnitude_positive b.lo some) w)
     (ceil_mono (a.lo *ℤ pos n) (a.hi *ℤ pos n) (unsigned_abs b.hi) (magnitude_positive b.hi more) w)
 
--- ---- a quotient by nothing: its ends tell the sign of the dividend alone
+-- ---- a quotient by the interval from 0 to 0: its ends depend only on the sign of the dividend
 
 dividend_not_negative : (n m : ℕ) (x x' : ℤ) → (pos m *ℤ x) ≤ℤ x' → pos 0 ≤ℤ (x *ℤ pos n) → pos 0 ≤ℤ (x' *ℤ pos (m * n))
 dividend_not_negative n m x x' h p =

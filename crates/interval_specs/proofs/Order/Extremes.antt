@@ -58,7 +58,7 @@ any_least P p q r s a b c d = either_min P (int_min p q) (int_min r s) (either_m
 pub any_greatest : (P : ℤ → Type 0) (p q r s : ℤ) → P p → P q → P r → P s → P (greatest_of_four p q r s)
 any_greatest P p q r s a b c d = either_max P (int_max p q) (int_max r s) (either_max P p q a b) (either_max P r s c d)
 
--- the least and the greatest of two pairs, of which one is nowhere above the other
+-- the least and the greatest of two pairs, where no number of one pair is above its partner in the other
 pub least_of_lower : (p q r s : ℤ) → p ≤ℤ r → q ≤ℤ s → least_of_four p q r s ≡ int_min p q
 least_of_lower p q r s h k =
     antisym_ℤ (least_of_four p q r s) (int_min p q)
@@ -71,7 +71,7 @@ greatest_of_upper p q r s h k =
     (any_greatest (λ z. z ≤ℤ int_max r s) p q r s (trans_ℤ p r (int_max r s) h (max_left r s)) (trans_ℤ q s (int_max r s) k (max_right r s)) (max_left r s) (max_right r s))
     (max_right (int_max p q) (int_max r s))
 
--- the lesser and the greater of two that stand in order
+-- the lesser and the greater of two numbers that are in order
 pub min_first : (x y : ℤ) → x ≤ℤ y → int_min x y ≡ x
 min_first x y h = antisym_ℤ (int_min x y) x (min_left x y) (either_min (λ z. x ≤ℤ z) x y (refl_ℤ x) h)
 

@@ -17,7 +17,7 @@ up-neg a = (neg_is a).0
 pub down-neg : (a : ℤ) → down (neg_ℤ a) ≡ up a
 down-neg a = (neg_is a).1
 
--- the parts of products and negations, to be read before `omega`
+-- the parts of products and negations, by which a goal is simplified before `omega`
 pub ruleset parts = (up-mul, down-mul, up-neg, down-neg)
 
 -- an order from its parts, and the parts from an order
@@ -86,7 +86,7 @@ mul-add_ℤ a b c =
 pub mul-neg_ℤ : (a b : ℤ) → a *ℤ neg_ℤ b ≡ neg_ℤ (a *ℤ b)
 mul-neg_ℤ a b = same_in (a *ℤ neg_ℤ b) (neg_ℤ (a *ℤ b)) (simp parts (omega arith))
 
--- the two factors on the left change their order
+-- the first two factors change their order
 pub mul_swap_ℤ : (a b c : ℤ) → a *ℤ (b *ℤ c) ≡ b *ℤ (a *ℤ c)
 mul_swap_ℤ a b c = same_in (a *ℤ (b *ℤ c)) (b *ℤ (a *ℤ c)) (simp parts (omega arith))
 

@@ -1,4 +1,4 @@
--- Lower bounds: what they give, and those of rounded quotients, sums, products, squares and choices.
+-- Lower bounds: what follows from them, and those of rounded quotients, sums, products, squares and choices.
 use Rattle.std.proofs.Common.{ℕ, ℤ, pos, negsuc, suc, true, false, ◌+◌, ◌*◌, ◌≤◌, ◌<◌, ◌*ℤ◌, ◌≤ℤ◌, ◌<ℤ◌, unsigned_abs, arith, mul-le-mul_left, ◌/◌, ◌%◌, div-add-mod', mod-lt, Bool, if◌then◌else◌, mul-le-mul, zero, lit<}
 use Rattle.std.proofs.Math.Nat.{le_of_mul-le-mul_left}
 use Rattle.std.proofs.lemmas.Int.{ints}
@@ -12,7 +12,7 @@ use Rattle.interval_specs.proofs.Laws.{least_magnitude_above}
 use Rattle.interval_specs.proofs.Ranges.Sums.{sum_at_least}
 use Rattle.interval_specs.proofs.Ranges.Quotients.{divisor_magnitude}
 
--- ---- what a lower bound gives
+-- ---- what follows from a lower bound
 
 above_0 : (k q : ℕ) (x : ℤ) → 0 < k → pos k ≤ℤ (pos q *ℤ x) → pos 0 <ℤ x
 above_0 k q (pos zero) p h = let r = simp parts at (to_parts (pos k) (pos q *ℤ pos zero) h) in absurd (omega arith)
@@ -31,7 +31,7 @@ magnitude_above k q (negsuc x) p h = let r = simp parts at (to_parts (pos k) (po
 pub low_magnitude_at_least : (p q n : ℕ) (a : Ends) → 0 < p * n → AtLeast p q n a → p * n ≤ q * unsigned_abs a.lo
 low_magnitude_at_least p q n a some h = magnitude_above (p * n) q a.lo some h.low
 
--- an interval that begins no lower
+-- a lower bound of an interval holds for one whose lower end is no less
 pub begins_higher : (p q n : ℕ) (a b : Ends) → a.lo ≤ℤ b.lo → AtLeast p q n a → AtLeast p q n b
 begins_higher p q n a b o h = record { low = trans_ℤ (pos (p * n)) (pos q *ℤ a.lo) (pos q *ℤ b.lo) h.low (mono_left q a.lo b.lo o) }
 

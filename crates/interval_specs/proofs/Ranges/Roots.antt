@@ -1,4 +1,4 @@
--- The range of each root, from the range of what it is taken of.
+-- The range of each root, from the range of the interval under it.
 use Rattle.std.proofs.Common.{ℕ, ℤ, pos, ◌*◌, ◌≤◌, ◌≤ℤ◌, unsigned_abs, arith, le_trans, mul-le-mul_right}
 use Rattle.std.proofs.lemmas.Int.{ints}
 use Rattle.interval_specs.specs.Ends.{Ends}

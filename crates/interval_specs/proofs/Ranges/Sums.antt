@@ -47,7 +47,7 @@ pub sum_positive : (a b : Ends) → pos 0 <ℤ a.lo → pos 0 ≤ℤ b.lo → po
 unfolding sum_of
 sum_positive a b p q = omega (arith, ints)
 
--- the lower end of a sum is at least that of its first part, where the other is not negative
+-- the lower end of a sum is at least that of its first term, where the second is not negative
 pub sum_at_least : (a b : Ends) → pos 0 ≤ℤ b.lo → a.lo ≤ℤ (sum_of a b).lo
 unfolding sum_of
 sum_at_least a b q = omega (arith, ints)

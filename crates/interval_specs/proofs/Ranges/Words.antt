@@ -1,4 +1,4 @@
--- From one word for a range to another, and the range of two rounded ends.
+-- From one predicate of ranges to another, and the range of two rounded ends.
 use Rattle.std.proofs.Common.{ℕ, ℤ, pos, negsuc, ◌≡◌, ◌*◌, ◌≤◌, ◌<◌, ◌*ℤ◌, ◌≤ℤ◌, unsigned_abs, subst, arith, sym, ◌^◌, mul-le-mul}
 use Rattle.std.proofs.lemmas.Int.{ints, unsigned_abs-mul}
 use Rattle.interval_specs.specs.Rounding.{floor_over, ceil_over}
@@ -7,9 +7,9 @@ use Rattle.interval_specs.specs.Ranges.{MagnitudeUpTo, UpTo}
 use Rattle.interval_specs.proofs.Order.{parts, by_parts, to_parts, trans_ℤ}
 use Rattle.interval_specs.proofs.Rounds.{floor_greatest, floor_le_ceil, floor_small, ceil_small}
 
--- ---- from one word to another
+-- ---- from one predicate to another
 
--- ends no larger than k
+-- two ends of magnitude at most k
 pub magnitude_by : (x y : ℤ) (k : ℕ) → unsigned_abs x ≤ k → unsigned_abs y ≤ k → magnitude_of (record { lo = x; hi = y }) ≤ k
 magnitude_by x y k p q = omega arith
 
@@ -64,7 +64,7 @@ rounded_magnitude z y n r some o p q =
 pub floor_not_negative : (z : ℤ) (n : ℕ) → 0 < n → pos 0 ≤ℤ z → pos 0 ≤ℤ floor_over z n
 floor_not_negative z n some h = floor_greatest z (pos 0) n some (by_parts (pos 0 *ℤ pos n) z (simp parts (let p = to_parts (pos 0) z h in omega arith)))
 
--- a product of magnitudes
+-- the magnitude of a product
 pub product_small : (x y : ℤ) (j k : ℕ) → unsigned_abs x ≤ j → unsigned_abs y ≤ k → unsigned_abs (x *ℤ y) ≤ j * k
 product_small x y j k p q = subst (λ z. z ≤ j * k) (sym (unsigned_abs-mul x y)) (mul-le-mul p q)
 

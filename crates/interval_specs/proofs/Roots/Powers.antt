@@ -1,10 +1,10 @@
--- Roots by their inequalities: nothing above this file looks into the two functions.
+-- Roots by their inequalities: files that use this one do not unfold the two functions.
 use Rattle.std.proofs.Common.{ℕ, suc, ◌≡◌, true, false, cond, ◌+◌, ◌≤◌, ◌<◌, refl, ap, arith, ⊎_elim, Bool, mul-le-mul, zero, nat_le}
 use Rattle.std.proofs.lemmas.Bool.{cases_lt}
 use Rattle.std.proofs.lemmas.Bool.Decides.{nat_tests}
 use Rattle.interval_specs.specs.Roots.{square, cube, greatest_upto, root_below, root_above}
 
--- a power: it begins at 0, rises with its base and is no less than it
+-- a power: it is 0 at 0, rises with its base, and is never less than its base
 pub record IsPower (power : ℕ → ℕ) : Type 0 where
   pub begins : power 0 ≡ 0
   pub covers : (r : ℕ) → r ≤ power r

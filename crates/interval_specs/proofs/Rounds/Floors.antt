@@ -1,4 +1,4 @@
--- Rounding down and up by their inequalities: nothing above this file looks into the two functions.
+-- Rounding down and up by their inequalities: files that use this one do not unfold the two functions.
 use Rattle.std.proofs.Common.{ℕ, ◌+◌, ℤ, pos, negsuc, suc, ◌≡◌, ◌*◌, ◌≤◌, ◌<◌, ◌+ℤ◌, ◌*ℤ◌, neg_ℤ, ◌≤ℤ◌, ◌<ℤ◌, unsigned_abs, refl, ap, subst, arith, mul-le-mul_left, sym, ◌/◌, ◌%◌, div-add-mod', mod-lt, add-one-le, div-le_self}
 use borrow.Author.Differences.{sum_is_lem}
 use Rattle.std.proofs.lemmas.Int.{ints, by_lt_z}
@@ -140,7 +140,7 @@ factor_down (pos k) c d p h =
     by_parts (pos k *ℤ pos d) (pos k *ℤ pos c) (simp parts (omega arith))
 factor_down (negsuc k) c d p h = let m = mul-le-mul_left (suc k) h in by_parts (negsuc k *ℤ pos d) (negsuc k *ℤ pos c) (simp parts (omega arith))
 
--- the floor of a number that is not positive is not either
+-- the floor of a number that is not positive is not positive
 floor_not_positive : (z : ℤ) (n : ℕ) → z ≤ℤ pos 0 → floor_over z n ≤ℤ pos 0
 unfolding floor_over
 floor_not_positive (pos a) n p = let l = div-le_self a n in omega (arith, ints)

@@ -34,7 +34,7 @@ pub ceil_small : (z : ℤ) (n b : ℕ) → 0 < n → unsigned_abs z ≤ b * n �
 unfolding ceil_over
 ceil_small z n b some h = magnitude_of_neg (floor_over (neg_ℤ z) n) b (floor_small (neg_ℤ z) n b some (magnitude_of_neg z (b * n) h))
 
--- the floor, turned back into units, leaves room where z does
+-- the floor times the divisor leaves room where z does
 pub floor_turned : (z n : ℤ) → pos 0 <ℤ n → unsigned_abs z ≤ 10 ^ 37 → unsigned_abs n ≤ 2 ^ 127 - 1 → unsigned_abs (floor_over z (unsigned_abs n) *ℤ n) ≤ 2 ^ 127 - 1
 unfolding floor_over
 floor_turned (pos a) (pos n) some h k = let s = div-add-mod' a n in omega (arith, ints)

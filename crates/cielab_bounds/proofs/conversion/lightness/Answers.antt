@@ -10,7 +10,7 @@ use Rattle.cielab_bounds.proofs.conversion.lightness.Given as given
 use Rattle.cielab_bounds.proofs.conversion.lightness.Goals as goal
 use Rattle.cielab_bounds.proofs.conversion.lightness.Goals.{After-scale_by-2}
 
--- sixteen
+-- the second multiple is the number 16
 sixteen : (g : given.Over) (c : After-scale_by-2 g) → c.scale_by-2.result ≡ multiple_of (pos 16) (one_at g.S.Scale.unit)
 unfolding one_at
 sixteen g c =
