@@ -1,7 +1,7 @@
 -- What each status means, from the outcome of a call.
 use Rattle.std.proofs.Common.{◌≡◌, ◌⊎◌, ℕ, List, length, Option, Some, None, Result, Ok, IsTrue, IsSomeAnd, IfSome, option_map, refl, sym, ap, ◌∙◌, subst, inl, inr}
 use Rattle.shelf_io.specs.Contents.{Contents}
-use Rattle.shelf_io.specs.Counts.{Rose}
+use Rattle.shelf_io.specs.Counts.{IsRaised}
 use Rattle.shelf_io.specs.View.{ShelfView}
 use Rattle.spectral_tables.specs.CurveFile.{curve_table_of}
 use Rattle.dye_run.specs.Answers.{Report}
@@ -153,7 +153,7 @@ module _ (form : Option Form) (before after : World) (status : ℕ) where
   complete_ended (ended.spoke p (inr u) s l searched) c o e r reads writes puts = absurd (reads u.0 u.1.due u.1.failed.rose)
   complete_ended (ended.cut_off p due s l q) c o e r reads writes puts = absurd (puts l.counted.1)
   complete_ended (ended.spoiled mine name bytes w is s fails put) c o e r reads writes puts =
-      absurd (same_file o mine (name, bytes) (λ file. Rose (before.shelf.write_faults file.0) (after.shelf.write_faults file.0) → ⊥)
+      absurd (same_file o mine (name, bytes) (λ file. IsRaised (before.shelf.write_faults file.0) (after.shelf.write_faults file.0) → ⊥)
       (only_outcome before.shelf.contents c (asking_for form) o (reported mine) e r w) is writes fails.rose)
   complete_ended (ended.out_of_memory s f l) c o e r reads writes puts = inl s
 

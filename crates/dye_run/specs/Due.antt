@@ -1,7 +1,7 @@
 -- The possible results of a due read.
 use Rattle.std.specs.Prelude.{◌≡◌, ℕ, ◌≤◌, List, length, Option, Some, None, IfSome, IsSomeAnd, IsTrue, nat_le, if◌then◌else◌}
 use Rattle.shelf_io.specs.Contents.{Contents}
-use Rattle.shelf_io.specs.Counts.{Rose}
+use Rattle.shelf_io.specs.Counts.{IsRaised}
 use Rattle.shelf_io.specs.View.{ShelfView}
 
 -- the bytes, or None where there are more than the limit
@@ -16,5 +16,5 @@ pub record CanBeRead (contents : Option Contents) (name : List ℕ) (limit : ℕ
 
 -- a read of the name failed, and it had not been promised to succeed
 pub record FailsToRead (before after : ShelfView) (name : List ℕ) : Type 0 where
-  pub rose : Rose (before.read_faults name) (after.read_faults name)
+  pub rose : IsRaised (before.read_faults name) (after.read_faults name)
   pub unpromised : IsTrue (before.reads_promised name) → ⊥

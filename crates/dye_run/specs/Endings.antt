@@ -7,7 +7,7 @@ use Rattle.recipe_judge.specs.Recipes.{recipe_land}
 use Rattle.std.specs.Io.KnownBytes.{append_known}
 use Rattle.shelf_io.specs.Changes.{OnlyReads, OnlyWrites}
 use Rattle.shelf_io.specs.Contents.{Contents, write_bytes}
-use Rattle.shelf_io.specs.Counts.{CountsFailure, Rose}
+use Rattle.shelf_io.specs.Counts.{CountsFailure, IsRaised}
 use Rattle.shelf_io.specs.Taking.{AddsPrefix}
 use Rattle.shelf_io.specs.View.{ShelfView, SinkView}
 use Rattle.dye_run.specs.Answers.{Report}
@@ -64,7 +64,7 @@ pub data IsPut (text : List ℕ) (before after : SinkView) : Type 0 where
 -- a write of the name failed, and it had not been promised that these bytes can be written: nothing changed, or the name
 -- holds a prefix of them
 pub record FailsToWrite (before after : ShelfView) (name bytes : List ℕ) : Type 0 where
-  pub rose : Rose (before.write_faults name) (after.write_faults name)
+  pub rose : IsRaised (before.write_faults name) (after.write_faults name)
   pub unpromised : IsTrue (before.writes_promised name (length bytes)) → ⊥
   pub contents : IsCutOff name bytes before.contents after.contents
 

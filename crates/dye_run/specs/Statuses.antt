@@ -2,7 +2,7 @@
 use Rattle.std.specs.Prelude.{◌≡◌, ◌⊎◌, ◌==◌, ◌||◌, ℕ, List, [], Option, Some, None, All, IfSome, IsSome, IsTrue, Ok, length, if◌then◌else◌}
 use Rattle.shade_report.specs.Refusals.{unreadable_text, usage_text}
 use Rattle.shelf_io.specs.Contents.{Contents}
-use Rattle.shelf_io.specs.Counts.{Rose}
+use Rattle.shelf_io.specs.Counts.{IsRaised}
 use Rattle.dye_run.specs.Answers.{Report, StandsFiner}
 use Rattle.dye_run.specs.Asking.{Answers, IsDue, result_of}
 use Rattle.dye_run.specs.Commands.{asking_for}
@@ -101,9 +101,9 @@ module _ (form : Option Form) (before after : World) where
   IsComplete status =
       (c : Contents) (o : Outcome) → before.shelf.contents ≡ Some c
       → result_of c.file (asking_for form) ≡ Ok o
-      → ((n : List ℕ) → IsDue before.shelf.contents (asking_for form) n → Rose (before.shelf.read_faults n) (after.shelf.read_faults n) → ⊥)
-      → IfSome (written_of o) (λ file. Rose (before.shelf.write_faults file.0) (after.shelf.write_faults file.0) → ⊥)
-      → (Rose before.sink.faults after.sink.faults → ⊥)
+      → ((n : List ℕ) → IsDue before.shelf.contents (asking_for form) n → IsRaised (before.shelf.read_faults n) (after.shelf.read_faults n) → ⊥)
+      → IfSome (written_of o) (λ file. IsRaised (before.shelf.write_faults file.0) (after.shelf.write_faults file.0) → ⊥)
+      → (IsRaised before.sink.faults after.sink.faults → ⊥)
       → IsPrinted o status
 
   -- Where the files are known and determine an outcome, and reads of the due names, writes of its file and puts of its text are

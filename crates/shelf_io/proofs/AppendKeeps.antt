@@ -1,4 +1,4 @@
--- What an append changes of a shelf in memory, and what it leaves.
+-- What an append changes of a shelf in memory, and what it leaves unchanged.
 use Rattle.std.proofs.Common.{◌≡◌, ◌+◌, ◌-◌, ◌≤◌, ◌&&◌, ◌||◌, ℕ, Bool, true, false, Option, Some, None, Result, Ok, Err, IsOk, List, ◌++◌, length, take, option_map, if◌then◌else◌, is_some, IsSome, IsTrue, is_err, nat_lt, refl, sym, ap, ◌∙◌, subst, arith, length-take}
 use Rattle.std.specs.Option.{option_map_or}
 use Rattle.std.specs.Str.{bytes_eq}
@@ -8,7 +8,7 @@ use Rattle.std.proofs.lemmas.List.{take_all}
 use Rattle.shelf_io.specs.Calls.{fitting, is_refused, is_scheduled, none_scheduled, one_more}
 use Rattle.shelf_io.specs.Changes.{OnlyWrites}
 use Rattle.shelf_io.specs.Contents.{Adds, AddsTo, add_piece, known_file}
-use Rattle.shelf_io.specs.Counts.{CountsFailure, Rose}
+use Rattle.shelf_io.specs.Counts.{CountsFailure, IsRaised}
 use Rattle.shelf_io.specs.Held.{Held, held_under, with_piece}
 use Rattle.shelf_io.specs.MemShelf.{ShelfState, append_after, append_fails, append_size, is_held, promises_reads, promises_writes, shelf_contents, shelf_handed, shelf_reads, shelf_view, shelf_writes}
 use Rattle.shelf_io.proofs.Changes.{count_grows, count_others, counted, counted_as, file_after, grows_or, kept_or, other_name, rose_one, same_name, under_after}
@@ -16,62 +16,62 @@ use Rattle.shelf_io.proofs.Promises.{none_fails, writes_facts, writes_promise}
 use Rattle.shelf_io.proofs.ReadKeeps.{held_same, is_fine}
 use Rattle.shelf_io.proofs.Shelves.{same_contents}
 
--- what an append puts behind the bytes
-abbrev front_of : ShelfState → List ℕ → List ℕ
-front_of s piece = take (append_size s piece) piece
+-- the prefix of its piece that an append adds
+abbrev prefix_of : ShelfState → List ℕ → List ℕ
+prefix_of s piece = take (append_size s piece) piece
 
-append_under : (s : ShelfState) (name piece n : List ℕ) → held_under n (append_after s name piece).files ≡ file_after true (bytes_eq n name) (with_piece (append_fails s piece) (front_of s piece)) (held_under n s.files)
-append_under s name piece n = under_after true name n (with_piece (append_fails s piece) (front_of s piece)) s.files (λ _. refl)
+append_under : (s : ShelfState) (name piece n : List ℕ) → held_under n (append_after s name piece).files ≡ file_after true (bytes_eq n name) (with_piece (append_fails s piece) (prefix_of s piece)) (held_under n s.files)
+append_under s name piece n = under_after true name n (with_piece (append_fails s piece) (prefix_of s piece)) s.files (λ _. refl)
 
 -- sizes
 
-fitting_most : (told : Bool) (room size : ℕ) → fitting told room size ≤ size
+fitting_most : (scheduled : Bool) (room size : ℕ) → fitting scheduled room size ≤ size
 fitting_most true room size = grind arith
 fitting_most false room size = omega arith
 
-fitting_room : (told : Bool) (room size : ℕ) → fitting told room size ≤ room
+fitting_room : (scheduled : Bool) (room size : ℕ) → fitting scheduled room size ≤ room
 fitting_room true room size = omega arith
 fitting_room false room size = omega arith
 
-front_size : (s : ShelfState) (piece : List ℕ) → length (front_of s piece) ≡ append_size s piece
-front_size s piece = let h = fitting_most (is_scheduled s.failing s.calls) s.room (length piece) in simp length-take (omega arith)
+prefix_size : (s : ShelfState) (piece : List ℕ) → length (prefix_of s piece) ≡ append_size s piece
+prefix_size s piece = let h = fitting_most (is_scheduled s.failing s.calls) s.room (length piece) in simp length-take (omega arith)
 
-whole_step : (told : Bool) (room size : ℕ) → is_refused told room size ≡ false → fitting told room size ≡ size
+whole_step : (scheduled : Bool) (room size : ℕ) → is_refused scheduled room size ≡ false → fitting scheduled room size ≡ size
 whole_step true room size h = absurd (false≢true (sym h))
 whole_step false room size h = grind (arith, nat_tests)
 
-front_whole : (s : ShelfState) (piece : List ℕ) → append_fails s piece ≡ false → front_of s piece ≡ piece
-front_whole s piece h =
+prefix_whole : (s : ShelfState) (piece : List ℕ) → append_fails s piece ≡ false → prefix_of s piece ≡ piece
+prefix_whole s piece h =
     let e : append_size s piece ≡ length piece = whole_step (is_scheduled s.failing s.calls) s.room (length piece) h in
     take_all (append_size s piece) piece (omega arith)
 
 -- contents
 
-added_step : (q fails : Bool) (front : List ℕ) (u : Option Held) → option_map (λ f. f.bytes) (file_after true q (with_piece fails front) u) ≡ (if q then option_map (λ bytes. bytes ++ front) (option_map (λ f. f.bytes) u) else option_map (λ f. f.bytes) u)
-added_step true fails front None = refl
-added_step true fails front (Some f) = refl
-added_step false fails front u = refl
+added_step : (q fails : Bool) (prefix : List ℕ) (u : Option Held) → option_map (λ f. f.bytes) (file_after true q (with_piece fails prefix) u) ≡ (if q then option_map (λ bytes. bytes ++ prefix) (option_map (λ f. f.bytes) u) else option_map (λ f. f.bytes) u)
+added_step true fails prefix None = refl
+added_step true fails prefix (Some f) = refl
+added_step false fails prefix u = refl
 
-append_adds : (s t : ShelfState) (name piece : List ℕ) → t ≡ append_after s name piece → AddsTo name (front_of s piece) (Some (shelf_contents s)) (Some (shelf_contents t))
+append_adds : (s t : ShelfState) (name piece : List ℕ) → t ≡ append_after s name piece → AddsTo name (prefix_of s piece) (Some (shelf_contents s)) (Some (shelf_contents t))
 append_adds s t name piece e =
-    let size = front_size s piece in
+    let size = prefix_size s piece in
     let most = fitting_room (is_scheduled s.failing s.calls) s.room (length piece) in (
       ap (λ x. Some (shelf_contents x)) e
-          ∙ ap (λ c. Some c) (same_contents (shelf_contents (append_after s name piece)) (add_piece name (front_of s piece) (shelf_contents s))
-          (λ n. ap (option_map (λ f. f.bytes)) (append_under s name piece n) ∙ added_step (bytes_eq n name) (append_fails s piece) (front_of s piece) (held_under n s.files))
+          ∙ ap (λ c. Some c) (same_contents (shelf_contents (append_after s name piece)) (add_piece name (prefix_of s piece) (shelf_contents s))
+          (λ n. ap (option_map (λ f. f.bytes)) (append_under s name piece n) ∙ added_step (bytes_eq n name) (append_fails s piece) (prefix_of s piece) (held_under n s.files))
           (ap (λ k. s.room - k) (sym size))),
       omega arith,
     )
 
 pub append_contents : {T E : Type 0} (s t : ShelfState) (name piece : List ℕ) (result : Result T E) → t ≡ append_after s name piece → is_err result ≡ append_fails s piece → Adds name piece result (Some (shelf_contents s)) (Some (shelf_contents t))
 append_contents s t name piece (Ok _) e exact =
-    let P : List ℕ → Type 0 = λ front. AddsTo name front (Some (shelf_contents s)) (Some (shelf_contents t)) in
-    subst P (front_whole s piece (sym exact)) (append_adds s t name piece e)
+    let P : List ℕ → Type 0 = λ prefix. AddsTo name prefix (Some (shelf_contents s)) (Some (shelf_contents t)) in
+    subst P (prefix_whole s piece (sym exact)) (append_adds s t name piece e)
 append_contents s t name piece (Err _) e exact = (append_size s piece, append_adds s t name piece e)
 
 -- counts
 
-append_writes : (s t : ShelfState) (name piece n : List ℕ) → t ≡ append_after s name piece → shelf_writes t n ≡ option_map_or (λ f. f.writes) (file_after true (bytes_eq n name) (with_piece (append_fails s piece) (front_of s piece)) (held_under n s.files)) s.shared_writes
+append_writes : (s t : ShelfState) (name piece n : List ℕ) → t ≡ append_after s name piece → shelf_writes t n ≡ option_map_or (λ f. f.writes) (file_after true (bytes_eq n name) (with_piece (append_fails s piece) (prefix_of s piece)) (held_under n s.files)) s.shared_writes
 append_writes s t name piece n e = ap (λ x. shelf_writes x n) e ∙ ap (λ u. option_map_or (λ f. f.writes) u s.shared_writes) (append_under s name piece n)
 
 append_grows : (s t : ShelfState) (name piece : List ℕ) → t ≡ append_after s name piece → (n : List ℕ) → shelf_writes s n ≤ shelf_writes t n
@@ -79,28 +79,28 @@ append_grows s t name piece e = λ n.
     let P : ℕ → Type 0 = λ k. shelf_writes s n ≤ k in
     let least : s.shared_writes ≤ s.shared_writes = omega arith in
     subst P (sym (append_writes s t name piece n e))
-    (count_grows (λ f. f.writes) (with_piece (append_fails s piece) (front_of s piece)) true (bytes_eq n name) (held_under n s.files) s.shared_writes s.shared_writes least (λ f. grows_or (append_fails s piece) f.writes))
+    (count_grows (λ f. f.writes) (with_piece (append_fails s piece) (prefix_of s piece)) true (bytes_eq n name) (held_under n s.files) s.shared_writes s.shared_writes least (λ f. grows_or (append_fails s piece) f.writes))
 
 same_or : (fails : Bool) (n : ℕ) → fails ≡ false → (if fails then one_more n else n) ≡ n
 same_or true n h = absurd (false≢true (sym h))
 same_or false n h = refl
 
--- an append that does not fail leaves every count
+-- an append that does not fail leaves every count unchanged
 append_stands : (s t : ShelfState) (name piece : List ℕ) → t ≡ append_after s name piece → append_fails s piece ≡ false → (n : List ℕ) → shelf_writes t n ≡ shelf_writes s n
 append_stands s t name piece e passes = λ n.
     append_writes s t name piece n e
-    ∙ kept_or (λ f. f.writes) (with_piece (append_fails s piece) (front_of s piece)) true (bytes_eq n name) (held_under n s.files) s.shared_writes (λ f. same_or (append_fails s piece) f.writes passes)
+    ∙ kept_or (λ f. f.writes) (with_piece (append_fails s piece) (prefix_of s piece)) true (bytes_eq n name) (held_under n s.files) s.shared_writes (λ f. same_or (append_fails s piece) f.writes passes)
 
-rose_step : (fails q : Bool) (front : List ℕ) (u : Option Held) (shared : ℕ) → fails ≡ true → q ≡ true → IsSome (option_map (λ f. f.bytes) u) → Rose (option_map_or (λ f. f.writes) u shared) (option_map_or (λ f. f.writes) (file_after true q (with_piece fails front) u) shared)
-rose_step false q front u shared f k held = absurd (false≢true f)
-rose_step true false front u shared f k held = absurd (false≢true k)
-rose_step true true front None shared f k held = absurd (false≢true held)
-rose_step true true front (Some file) shared f k held = rose_one file.writes
+rose_step : (fails q : Bool) (prefix : List ℕ) (u : Option Held) (shared : ℕ) → fails ≡ true → q ≡ true → IsSome (option_map (λ f. f.bytes) u) → IsRaised (option_map_or (λ f. f.writes) u shared) (option_map_or (λ f. f.writes) (file_after true q (with_piece fails prefix) u) shared)
+rose_step false q prefix u shared f k held = absurd (false≢true f)
+rose_step true false prefix u shared f k held = absurd (false≢true k)
+rose_step true true prefix None shared f k held = absurd (false≢true held)
+rose_step true true prefix (Some file) shared f k held = rose_one file.writes
 
-append_rose : (s t : ShelfState) (name piece : List ℕ) → t ≡ append_after s name piece → IsSome (option_map (λ f. f.bytes) (held_under name s.files)) → append_fails s piece ≡ true → Rose (shelf_writes s name) (shelf_writes t name)
+append_rose : (s t : ShelfState) (name piece : List ℕ) → t ≡ append_after s name piece → IsSome (option_map (λ f. f.bytes) (held_under name s.files)) → append_fails s piece ≡ true → IsRaised (shelf_writes s name) (shelf_writes t name)
 append_rose s t name piece e held fails =
-    let P : ℕ → Type 0 = λ k. Rose (shelf_writes s name) k in
-    subst P (sym (append_writes s t name piece name e)) (rose_step (append_fails s piece) (bytes_eq name name) (front_of s piece) (held_under name s.files) s.shared_writes fails (same_name name) held)
+    let P : ℕ → Type 0 = λ k. IsRaised (shelf_writes s name) k in
+    subst P (sym (append_writes s t name piece name e)) (rose_step (append_fails s piece) (bytes_eq name name) (prefix_of s piece) (held_under name s.files) s.shared_writes fails (same_name name) held)
 
 pub append_counted : {T E : Type 0} (s t : ShelfState) (name piece : List ℕ) (result : Result T E) → t ≡ append_after s name piece → IsSome (option_map (λ f. f.bytes) (held_under name s.files)) → is_err result ≡ append_fails s piece → CountsFailure (is_err result) (shelf_writes s name) (shelf_writes t name)
 append_counted s t name piece result e held exact =
@@ -122,7 +122,7 @@ pub append_promised : {T E : Type 0} (s : ShelfState) (name piece : List ℕ) (r
 append_promised s name piece result exact = λ more h. is_fine result (exact ∙ promise_passes s name piece more h)
 
 held_after : (s : ShelfState) (name piece n : List ℕ) → is_held (append_after s name piece) n ≡ is_held s n
-held_after s name piece n = ap is_some (append_under s name piece n) ∙ held_same (with_piece (append_fails s piece) (front_of s piece)) (bytes_eq n name) (held_under n s.files)
+held_after s name piece n = ap is_some (append_under s name piece n) ∙ held_same (with_piece (append_fails s piece) (prefix_of s piece)) (bytes_eq n name) (held_under n s.files)
 
 pub append_kept : (s t : ShelfState) (name piece : List ℕ) → t ≡ append_after s name piece → (n : List ℕ) (more : ℕ) → IsTrue (promises_writes s n (length piece + more)) → IsTrue (promises_writes t n more) × (shelf_writes t n ≡ shelf_writes s n)
 append_kept s t name piece e = λ n more h.
@@ -130,7 +130,7 @@ append_kept s t name piece e = λ n more h.
     let P : ShelfState → Type 0 = λ x. IsTrue (promises_writes x n more) in
     let most = fitting_most (is_scheduled s.failing s.calls) s.room (length piece) in
     let enough : more ≤ s.room - append_size s piece = let r = w.room in omega (arith, most, r) in (
-      subst P (sym e) (writes_promise (append_after s name piece) n more (record { none = w.none; place = ap (λ b. b || nat_lt 0 s.places) (held_after s name piece n) ∙ w.place; room = enough })),
+      subst P (sym e) (writes_promise (append_after s name piece) n more (record { none = w.none; slot = ap (λ b. b || nat_lt 0 s.slots) (held_after s name piece n) ∙ w.slot; room = enough })),
       append_stands s t name piece e (promise_passes s n piece more h) n,
     )
 
@@ -138,17 +138,17 @@ pub append_only : (s t : ShelfState) (name piece : List ℕ) → t ≡ append_af
 append_only s t name piece e = record {
   reads = λ n.
       ap (λ x. shelf_reads x n) e ∙ ap (λ u. option_map_or (λ f. f.reads) u s.shared_reads) (append_under s name piece n)
-      ∙ kept_or (λ f. f.reads) (with_piece (append_fails s piece) (front_of s piece)) true (bytes_eq n name) (held_under n s.files) s.shared_reads (λ _. refl);
+      ∙ kept_or (λ f. f.reads) (with_piece (append_fails s piece) (prefix_of s piece)) true (bytes_eq n name) (held_under n s.files) s.shared_reads (λ _. refl);
   handed = λ n.
       ap (λ x. shelf_handed x n) e ∙ ap (λ u. option_map_or (λ f. f.handed) u 0) (append_under s name piece n)
-      ∙ kept_or (λ f. f.handed) (with_piece (append_fails s piece) (front_of s piece)) true (bytes_eq n name) (held_under n s.files) 0 (λ _. refl);
-  files = λ n apart.
-      let k : (if bytes_eq n name then option_map (λ bytes. bytes ++ front_of s piece) ((shelf_contents s).file n) else (shelf_contents s).file n) ≡ (shelf_contents s).file n = rw (other_name n name apart) refl in
+      ∙ kept_or (λ f. f.handed) (with_piece (append_fails s piece) (prefix_of s piece)) true (bytes_eq n name) (held_under n s.files) 0 (λ _. refl);
+  files = λ n different.
+      let k : (if bytes_eq n name then option_map (λ bytes. bytes ++ prefix_of s piece) ((shelf_contents s).file n) else (shelf_contents s).file n) ≡ (shelf_contents s).file n = rw (other_name n name different) refl in
       ap (λ c. known_file c n) (append_adds s t name piece e).0 ∙ k;
   grows = append_grows s t name piece e;
-  others = λ n apart held.
+  others = λ n different held.
       append_writes s t name piece n e
-      ∙ count_others (λ f. f.writes) (λ f. f.bytes) (with_piece (append_fails s piece) (front_of s piece)) true (bytes_eq n name) (held_under n s.files) s.shared_writes s.shared_writes (other_name n name apart) held;
+      ∙ count_others (λ f. f.writes) (λ f. f.bytes) (with_piece (append_fails s piece) (prefix_of s piece)) true (bytes_eq n name) (held_under n s.files) s.shared_writes s.shared_writes (other_name n name different) held;
   reads_kept = λ n h.
       let P : ShelfState → Type 0 = λ x. IsTrue (promises_reads x n) in
       subst P (sym e) (ap (λ b. none_scheduled s.failing && b) (held_after s name piece n) ∙ h);

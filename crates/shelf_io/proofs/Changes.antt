@@ -1,4 +1,4 @@
--- a change of the file under one name, or of none, and what it leaves of the file under any name
+-- A change of the file under one name, or of none, and what it leaves unchanged of the file under any name.
 use Rattle.std.proofs.Common.{◌≡◌, ◌≢◌, ◌≤◌, ℕ, Bool, true, false, Option, Some, None, List, option_map, if◌then◌else◌, is_some, IsSome, Result, Ok, Err, OnErr, OnOk, is_err, refl, sym, ap, ◌∙◌, subst, arith}
 use Rattle.std.specs.Option.{option_map_or}
 use Rattle.std.specs.Str.{bytes_eq}
@@ -6,7 +6,7 @@ use Rattle.std.proofs.lemmas.Bool.{false≢true}
 use Rattle.std.proofs.lemmas.Bool.Decides.{nat_tests}
 use Rattle.std.proofs.lemmas.Slice.Eq.{bytes_eq-Decides}
 use Rattle.shelf_io.specs.Calls.{one_more}
-use Rattle.shelf_io.specs.Counts.{CountsFailure, Rose}
+use Rattle.shelf_io.specs.Counts.{CountsFailure, IsRaised}
 use Rattle.shelf_io.specs.Held.{Held, held_under, change_under}
 use Rattle.shelf_io.proofs.Files.{under_changed}
 use Rattle.shelf_io.proofs.Shelves.{under_choice, choice_both}
@@ -14,10 +14,10 @@ use Rattle.shelf_io.proofs.Shelves.{under_choice, choice_both}
 pub grows_one : (n : ℕ) → n ≤ one_more n
 grows_one n = grind (arith, nat_tests)
 
-pub rose_one : (n : ℕ) → Rose n (one_more n)
+pub rose_one : (n : ℕ) → IsRaised n (one_more n)
 rose_one n = grind (arith, nat_tests)
 
--- the file under a name where that under another was changed, or none was
+-- the file under a name, where the file under another name was changed, or none was
 abbrev pub file_after : Bool → Bool → (Held → Held) → Option Held → Option Held
 file_after changed q change u = if changed then (if q then option_map change u else u) else u
 
@@ -26,7 +26,7 @@ pub under_after : (changed : Bool) (name n : List ℕ) (change : Held → Held) 
 under_after changed name n change files keeps =
     under_choice changed n (change_under name change files) files ∙ choice_both changed (under_changed name n change files keeps) refl
 
--- what the change keeps of a file is kept of the file under any name
+-- what the change leaves unchanged of a file is unchanged of the file under any name
 pub kept : {A : Type 0} (p : Held → A) (change : Held → Held) (changed q : Bool) (u : Option Held) → ((f : Held) → p (change f) ≡ p f) → option_map p (file_after changed q change u) ≡ option_map p u
 kept p change true true None k = refl
 kept p change true true (Some f) k = ap (λ x. Some x) (k f)
@@ -65,14 +65,14 @@ grows_or true n = grows_one n
 grows_or false n = omega arith
 
 -- a failed call raises the count of its own name
-pub count_rose : (p : Held → ℕ) (change : Held → Held) (changed q : Bool) (u : Option Held) (shared : ℕ) → changed ≡ true → q ≡ true → ((f : Held) → p (change f) ≡ one_more (p f)) → Rose (option_map_or p u shared) (option_map_or p (file_after changed q change u) (if is_some u then shared else one_more shared))
+pub count_rose : (p : Held → ℕ) (change : Held → Held) (changed q : Bool) (u : Option Held) (shared : ℕ) → changed ≡ true → q ≡ true → ((f : Held) → p (change f) ≡ one_more (p f)) → IsRaised (option_map_or p u shared) (option_map_or p (file_after changed q change u) (if is_some u then shared else one_more shared))
 count_rose p change false q u shared e g k = absurd (false≢true e)
 count_rose p change true false u shared e g k = absurd (false≢true g)
 count_rose p change true true None shared e g k = rose_one shared
 count_rose p change true true (Some f) shared e g k = let r = rose_one (p f) in rw k r
 
 -- a call counts its failure
-pub counted : (fails : Bool) (before now : ℕ) → before ≤ now → (fails ≡ true → Rose before now) → (fails ≡ false → now ≡ before) → CountsFailure fails before now
+pub counted : (fails : Bool) (before now : ℕ) → before ≤ now → (fails ≡ true → IsRaised before now) → (fails ≡ false → now ≡ before) → CountsFailure fails before now
 counted true before now l rose same = (l, rose refl)
 counted false before now l rose same = same refl
 

@@ -1,10 +1,10 @@
--- the files of a shelf in memory: what stands at a place, and what a change of one file leaves of the others
+-- The files of a shelf in memory: which file is at an index, and that a change of one file leaves the others unchanged.
 use Rattle.std.proofs.Common.{◌≡◌, ◌+◌, ℕ, Bool, true, false, Option, Some, None, List, [], ◌∷◌, ◌++◌, get_or, option_map, if◌then◌else◌, is_some, refl, sym, ap, ◌∙◌, subst, add-one}
 use Rattle.std.proofs.Math.ListN.{set}
 use Rattle.std.specs.Str.{bytes_eq}
 use Rattle.std.proofs.lemmas.Slice.Eq.{bytes_eq-Decides}
 use Rattle.std.proofs.lemmas.Bool.{false≢true}
-use Rattle.shelf_io.specs.Held.{Held, held_under, place_of, change_under}
+use Rattle.shelf_io.specs.Held.{Held, held_under, index_of, change_under}
 
 found_step : (b : Bool) (f d : Held) (p : Option ℕ) (u : Option Held) (fs : List Held) (at : ℕ) → ((k : ℕ) → p ≡ Some k → u ≡ Some (get_or fs k d)) → (if b then Some 0 else option_map (λ k. k + 1) p) ≡ Some at → (if b then Some f else u) ≡ Some (get_or (f ∷ fs) at d)
 found_step true f d p u fs at rest h =
@@ -17,21 +17,21 @@ found_step false f d (Some k) u fs at rest h =
     let P : ℕ → Type 0 = λ j. u ≡ Some (get_or (f ∷ fs) j d) in
     subst P e (rw add-one (rest k refl))
 
--- the file at the place of a name is the one under it
-pub found_at : (name : List ℕ) (files : List Held) (at : ℕ) (d : Held) → place_of name files ≡ Some at → held_under name files ≡ Some (get_or files at d)
+-- the file at the index of a name is the file under the name
+pub found_at : (name : List ℕ) (files : List Held) (at : ℕ) (d : Held) → index_of name files ≡ Some at → held_under name files ≡ Some (get_or files at d)
 found_at name [] at d h = cc
 found_at name (f ∷ fs) at d h =
-    found_step (bytes_eq f.name name) f d (place_of name fs) (held_under name fs) fs at (λ k e. found_at name fs k d e) h
+    found_step (bytes_eq f.name name) f d (index_of name fs) (held_under name fs) fs at (λ k e. found_at name fs k d e) h
 
 lost_step : (b : Bool) (f : Held) (p : Option ℕ) (u : Option Held) → (p ≡ None → u ≡ None) → (if b then Some 0 else option_map (λ k. k + 1) p) ≡ None → (if b then Some f else u) ≡ None
 lost_step true f p u rest h = cc
 lost_step false f None u rest h = rest refl
 lost_step false f (Some k) u rest h = cc
 
--- a name with no place is not held
-pub lost : (name : List ℕ) (files : List Held) → place_of name files ≡ None → held_under name files ≡ None
+-- a name with no index is not held
+pub lost : (name : List ℕ) (files : List Held) → index_of name files ≡ None → held_under name files ≡ None
 lost name [] h = refl
-lost name (f ∷ fs) h = lost_step (bytes_eq f.name name) f (place_of name fs) (held_under name fs) (λ e. lost name fs e) h
+lost name (f ∷ fs) h = lost_step (bytes_eq f.name name) f (index_of name fs) (held_under name fs) (λ e. lost name fs e) h
 
 change_step : (b : Bool) (f d : Held) (p : Option ℕ) (change : Held → Held) (fs changed : List Held) (at : ℕ) → ((k : ℕ) → p ≡ Some k → set fs k (change (get_or fs k d)) ≡ changed) → (if b then Some 0 else option_map (λ k. k + 1) p) ≡ Some at → set (f ∷ fs) at (change (get_or (f ∷ fs) at d)) ≡ (if b then change f ∷ fs else f ∷ changed)
 change_step true f d p change fs changed at rest h =
@@ -44,11 +44,11 @@ change_step false f d (Some k) change fs changed at rest h =
     let P : ℕ → Type 0 = λ j. set (f ∷ fs) j (change (get_or (f ∷ fs) j d)) ≡ (f ∷ changed) in
     subst P e (rw add-one (ap (λ xs. f ∷ xs) (rest k refl)))
 
--- a change at the place of a name is a change of the file under it
-pub change_at : (name : List ℕ) (change : Held → Held) (files : List Held) (at : ℕ) (d : Held) → place_of name files ≡ Some at → set files at (change (get_or files at d)) ≡ change_under name change files
+-- a change at the index of a name is a change of the file under the name
+pub change_at : (name : List ℕ) (change : Held → Held) (files : List Held) (at : ℕ) (d : Held) → index_of name files ≡ Some at → set files at (change (get_or files at d)) ≡ change_under name change files
 change_at name change [] at d h = cc
 change_at name change (f ∷ fs) at d h =
-    change_step (bytes_eq f.name name) f d (place_of name fs) change fs (change_under name change fs) at (λ k e. change_at name change fs k d e) h
+    change_step (bytes_eq f.name name) f d (index_of name fs) change fs (change_under name change fs) at (λ k e. change_at name change fs k d e) h
 
 missing_step : (b : Bool) (f : Held) (change : Held → Held) (u : Option Held) (fs changed : List Held) → (u ≡ None → changed ≡ fs) → (if b then Some f else u) ≡ None → (if b then change f ∷ fs else f ∷ changed) ≡ (f ∷ fs)
 missing_step true f change u fs changed rest h = cc
@@ -97,7 +97,7 @@ pushed_step : (b : Bool) (g f : Held) (fs : List Held) (n : List ℕ) → held_u
 pushed_step true g f fs n ih = refl
 pushed_step false g f fs n ih = ih
 
--- after a change of the file under a name, what is under any name
+-- after a change of the file under a name, the file under any name
 pub under_changed : (name n : List ℕ) (change : Held → Held) (files : List Held) → ((f : Held) → (change f).name ≡ f.name)
     → held_under n (change_under name change files) ≡ (if bytes_eq n name then option_map change (held_under n files) else held_under n files)
 under_changed name n change [] keeps = none_step (bytes_eq n name) change
@@ -106,16 +106,16 @@ under_changed name n change (f ∷ fs) keeps =
     under_step (bytes_eq f.name name) (bytes_eq f.name n) (bytes_eq n name) f (change f) fs (change_under name change fs) (held_under n fs) n change
     a.both a.first a.second refl (ap (λ x. bytes_eq x n) (keeps f)) refl refl (under_changed name n change fs keeps)
 
--- behind the files, a new one is under its name, where no other was
+-- a new file after the others is the one under its name, where there was none
 pub under_pushed : (n : List ℕ) (files : List Held) (f : Held) → held_under n (files ++ f ∷ []) ≡ (if is_some (held_under n files) then held_under n files else (if bytes_eq f.name n then Some f else None))
 under_pushed n [] f = refl
 under_pushed n (g ∷ fs) f = pushed_step (bytes_eq g.name n) g f fs n (under_pushed n fs f)
 
--- what is read at the place of a name is the file under it
-pub read_there : (name : List ℕ) (files seen : List Held) (at : ℕ) (file : Held) → seen ≡ files → Some at ≡ place_of name seen → file ≡ get_or files at file → held_under name files ≡ Some file
+-- what is read at the index of a name is the file under the name
+pub read_there : (name : List ℕ) (files seen : List Held) (at : ℕ) (file : Held) → seen ≡ files → Some at ≡ index_of name seen → file ≡ get_or files at file → held_under name files ≡ Some file
 read_there name files seen at file s p g =
-    found_at name files at file (ap (place_of name) (sym s) ∙ sym p) ∙ ap (λ x. Some x) (sym g)
+    found_at name files at file (ap (index_of name) (sym s) ∙ sym p) ∙ ap (λ x. Some x) (sym g)
 
--- where no place is found the name is not held
-pub read_nowhere : (name : List ℕ) (files seen : List Held) → seen ≡ files → None ≡ place_of name seen → held_under name files ≡ None
-read_nowhere name files seen s p = lost name files (ap (place_of name) (sym s) ∙ sym p)
+-- where no index is found, the name is not held
+pub read_nowhere : (name : List ℕ) (files seen : List Held) → seen ≡ files → None ≡ index_of name seen → held_under name files ≡ None
+read_nowhere name files seen s p = lost name files (ap (index_of name) (sym s) ∙ sym p)

@@ -1,4 +1,4 @@
--- Calls one after the other: what they change, and what they leave.
+-- Calls one after the other: what they change, and what they leave unchanged.
 use Rattle.std.proofs.Common.{◌≡◌, ◌+◌, ◌≤◌, ℕ, Bool, true, false, Option, List, IsSome, IsTrue, if◌then◌else◌, refl, sym, ◌∙◌, subst, arith}
 use Rattle.std.specs.Str.{bytes_eq}
 use Rattle.shelf_io.specs.Changes.{HandsOut, OnlyReads, OnlyWrites}
@@ -11,9 +11,9 @@ reads_then names old mid new f g = record {
   contents = g.contents ∙ f.contents;
   writes = λ n. g.writes n ∙ f.writes n;
   grows = λ n. let a = f.grows n in let b = g.grows n in omega (arith, a, b);
-  others = λ n apart held.
+  others = λ n different held.
       let P : Option Contents → Type 0 = λ c. IsSome (known_file c n) in
-      g.others n apart (subst P (sym f.contents) held) ∙ f.others n apart held;
+      g.others n different (subst P (sym f.contents) held) ∙ f.others n different held;
   reads_kept = λ n h. let a = f.reads_kept n h in let b = g.reads_kept n a.0 in (b.0, b.1 ∙ a.1);
   writes_kept = λ n bytes h. g.writes_kept n bytes (f.writes_kept n bytes h);
 }
@@ -24,18 +24,18 @@ reads_none names old = record {
   contents = refl;
   writes = λ n. refl;
   grows = λ n. omega arith;
-  others = λ n apart held. refl;
+  others = λ n different held. refl;
   reads_kept = λ n h. (h, refl);
   writes_kept = λ n bytes h. h;
 }
 
--- reads of some of the names are reads of the names
+-- reads of some of the names are reads of these names
 pub reads_wider : (some names : List ℕ → Type 0) (old new : ShelfView) → ((n : List ℕ) → some n → names n) → OnlyReads some old new → OnlyReads names old new
 reads_wider some names old new sub f = record {
   contents = f.contents;
   writes = f.writes;
   grows = f.grows;
-  others = λ n apart held. f.others n (λ h. apart (sub n h)) held;
+  others = λ n different held. f.others n (λ h. different (sub n h)) held;
   reads_kept = f.reads_kept;
   writes_kept = f.writes_kept;
 }
@@ -45,11 +45,11 @@ pub writes_then : (name : List ℕ) (a b : ℕ) (old mid new : ShelfView) → On
 writes_then name a b old mid new f g = record {
   reads = λ n. g.reads n ∙ f.reads n;
   handed = λ n. g.handed n ∙ f.handed n;
-  files = λ n apart. g.files n apart ∙ f.files n apart;
+  files = λ n different. g.files n different ∙ f.files n different;
   grows = λ n. let k = f.grows n in let l = g.grows n in omega (arith, k, l);
-  others = λ n apart held.
+  others = λ n different held.
       let P : Option (List ℕ) → Type 0 = λ file. IsSome file in
-      g.others n apart (subst P (sym (f.files n apart)) held) ∙ f.others n apart held;
+      g.others n different (subst P (sym (f.files n different)) held) ∙ f.others n different held;
   reads_kept = λ n h. g.reads_kept n (f.reads_kept n h);
   writes_kept = λ more h.
       let e : (a + b) + more ≡ a + (b + more) = omega arith in

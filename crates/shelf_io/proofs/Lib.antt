@@ -2,7 +2,7 @@ mod AppendKeeps
 mod Changes
 mod CreateKeeps
 mod Files
-mod Fronts
+mod Prefixes
 pub mod Keeping
 mod Promises
 mod ReadKeeps

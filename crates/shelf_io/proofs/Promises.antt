@@ -1,4 +1,4 @@
--- What a shelf in memory promises, as facts.
+-- The promises of a shelf in memory, as facts.
 use Rattle.std.proofs.Common.{◌≡◌, ◌≤◌, ◌&&◌, ◌||◌, ℕ, Bool, true, false, List, [], ◌∷◌, IsTrue, nat_le, nat_lt, refl, arith}
 use Rattle.std.proofs.lemmas.Bool.{false≢true}
 use Rattle.std.proofs.lemmas.Bool.Decides.{nat_tests}
@@ -29,10 +29,10 @@ reads_facts s name h = let p = both (none_scheduled s.failing) (is_held s name) 
 pub reads_promise : (s : ShelfState) (name : List ℕ) → ReadsPromised s name → IsTrue (promises_reads s name)
 reads_promise s name w = and_true (none_scheduled s.failing) (is_held s name) w.none w.held
 
--- writes of so many bytes of the name are promised
+-- writes of this many bytes to the name are promised
 pub record WritesPromised (s : ShelfState) (name : List ℕ) (bytes : ℕ) : Type 0 where
   pub none : none_scheduled s.failing ≡ true
-  pub place : (is_held s name || nat_lt 0 s.places) ≡ true
+  pub slot : (is_held s name || nat_lt 0 s.slots) ≡ true
   pub room : bytes ≤ s.room
 
 room_of : (a b : ℕ) → nat_le a b ≡ true → a ≤ b
@@ -43,11 +43,11 @@ room_for a b h = grind (arith, nat_tests)
 
 pub writes_facts : (s : ShelfState) (name : List ℕ) (bytes : ℕ) → IsTrue (promises_writes s name bytes) → WritesPromised s name bytes
 writes_facts s name bytes h =
-    let p = both (none_scheduled s.failing && (is_held s name || nat_lt 0 s.places)) (nat_le bytes s.room) h in
-    let q = both (none_scheduled s.failing) (is_held s name || nat_lt 0 s.places) p.0 in
-    record { none = q.0; place = q.1; room = room_of bytes s.room p.1 }
+    let p = both (none_scheduled s.failing && (is_held s name || nat_lt 0 s.slots)) (nat_le bytes s.room) h in
+    let q = both (none_scheduled s.failing) (is_held s name || nat_lt 0 s.slots) p.0 in
+    record { none = q.0; slot = q.1; room = room_of bytes s.room p.1 }
 
 pub writes_promise : (s : ShelfState) (name : List ℕ) (bytes : ℕ) → WritesPromised s name bytes → IsTrue (promises_writes s name bytes)
 writes_promise s name bytes w =
-    and_true (none_scheduled s.failing && (is_held s name || nat_lt 0 s.places)) (nat_le bytes s.room)
-    (and_true (none_scheduled s.failing) (is_held s name || nat_lt 0 s.places) w.none w.place) (room_for bytes s.room w.room)
+    and_true (none_scheduled s.failing && (is_held s name || nat_lt 0 s.slots)) (nat_le bytes s.room)
+    (and_true (none_scheduled s.failing) (is_held s name || nat_lt 0 s.slots) w.none w.slot) (room_for bytes s.room w.room)

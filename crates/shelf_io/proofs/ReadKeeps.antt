@@ -1,10 +1,10 @@
--- What a read changes of a shelf in memory, and what it leaves.
+-- What a read changes of a shelf in memory, and what it leaves unchanged.
 use Rattle.std.proofs.Common.{◌≡◌, ◌+◌, ◌≤◌, ◌&&◌, ◌||◌, not, ℕ, Bool, true, false, Option, Some, None, List, Result, Ok, Err, IfOk, IsOk, IsTrue, is_err, option_map, if◌then◌else◌, is_some, IsSome, nat_le, nat_lt, refl, sym, ap, ◌∙◌, subst, arith}
 use Rattle.std.specs.Option.{option_map_or}
 use Rattle.std.specs.Str.{bytes_eq}
 use Rattle.std.proofs.lemmas.Bool.{false≢true}
 use Rattle.shelf_io.specs.Calls.{is_scheduled, none_scheduled, one_more}
-use Rattle.shelf_io.specs.Changes.{HandsOut, OnlyReads, given}
+use Rattle.shelf_io.specs.Changes.{HandsOut, OnlyReads, bytes_given}
 use Rattle.shelf_io.specs.Counts.{CountsFailure}
 use Rattle.shelf_io.specs.Held.{Held, held_under, with_read}
 use Rattle.shelf_io.specs.MemShelf.{ShelfState, is_held, promises_reads, promises_writes, read_after, read_fails, read_size, shelf_contents, shelf_handed, shelf_reads, shelf_view, shelf_writes}
@@ -12,7 +12,7 @@ use Rattle.shelf_io.proofs.Changes.{count_grows, count_others, counted_as, file_
 use Rattle.shelf_io.proofs.Promises.{none_fails, reads_facts}
 use Rattle.shelf_io.proofs.Shelves.{same_contents, same_file}
 
--- what a read leaves of a file
+-- what a read leaves unchanged of a file
 read_name : (fails : Bool) (count : ℕ) (f : Held) → (with_read fails count f).name ≡ f.name
 read_name true count f = refl
 read_name false count f = refl
@@ -29,7 +29,7 @@ read_grows : (fails : Bool) (count : ℕ) (f : Held) → f.reads ≤ (with_read 
 read_grows true count f = grows_one f.reads
 read_grows false count f = omega arith
 
--- the read of the name, from the offset on and into so many bytes, as a change of its file
+-- the read of the name, from the offset on into a buffer of `size` bytes, as a change of its file
 abbrev change : ShelfState → List ℕ → (offset size : ℕ) → Held → Held
 change s name offset size = with_read (read_fails s name) (read_size s name offset size)
 
@@ -47,7 +47,7 @@ shared_grows false shared = grows_one shared
 reads_are : (s : ShelfState) (name : List ℕ) (offset size : ℕ) (n : List ℕ) → shelf_reads (read_after s name offset size) n ≡ option_map_or (λ f. f.reads) (file_after true (bytes_eq n name) (change s name offset size) (held_under n s.files)) (shared_after s name)
 reads_are s name offset size n = ap (λ u. option_map_or (λ f. f.reads) u (shared_after s name)) (read_under s name offset size n)
 
--- the file under the own name: a failure raises its count, and without one it stays
+-- the file under the name that is read: a failure raises its count, and a success leaves it unchanged
 fails_held : (scheduled : Bool) (u : Option Held) → (scheduled || not (is_some u)) ≡ false → IsSome u
 fails_held true u h = absurd (false≢true (sym h))
 fails_held false (Some f) h = refl
@@ -76,7 +76,7 @@ held_same g false u = refl
 held_after : (s : ShelfState) (name : List ℕ) (offset size : ℕ) (n : List ℕ) → is_held (read_after s name offset size) n ≡ is_held s n
 held_after s name offset size n = ap is_some (read_under s name offset size n) ∙ held_same (change s name offset size) (bytes_eq n name) (held_under n s.files)
 
--- where no call is scheduled to fail, a read of any name leaves the count of a held one
+-- where no call is scheduled to fail, a read of any name leaves the count of a held name unchanged
 quiet : (fails scheduled q : Bool) (count : ℕ) (h u : Option Held) (shared shared' : ℕ) → (q ≡ true → u ≡ h) → fails ≡ (scheduled || not (is_some h)) → scheduled ≡ false → IsSome u
     → option_map_or (λ f. f.reads) (file_after true q (with_read fails count) u) shared' ≡ option_map_or (λ f. f.reads) u shared
 quiet fails scheduled q count h None shared shared' same c t i = absurd (false≢true i)
@@ -101,9 +101,9 @@ read_only s t name offset size e = record {
       let P : ℕ → Type 0 = λ k. shelf_reads s n ≤ k in
       subst P (sym (ap (λ x. shelf_reads x n) e ∙ reads_are s name offset size n))
       (count_grows (λ f. f.reads) (change s name offset size) true (bytes_eq n name) (held_under n s.files) s.shared_reads (shared_after s name) (shared_grows (is_held s name) s.shared_reads) (read_grows (read_fails s name) (read_size s name offset size)));
-  others = λ n apart held.
+  others = λ n different held.
       ap (λ x. shelf_reads x n) e ∙ reads_are s name offset size n
-      ∙ count_others (λ f. f.reads) (λ f. f.bytes) (change s name offset size) true (bytes_eq n name) (held_under n s.files) s.shared_reads (shared_after s name) (other_name n name apart) held;
+      ∙ count_others (λ f. f.reads) (λ f. f.bytes) (change s name offset size) true (bytes_eq n name) (held_under n s.files) s.shared_reads (shared_after s name) (other_name n name different) held;
   reads_kept = λ n h.
       let P : ShelfState → Type 0 = λ x. IsTrue (promises_reads x n) in
       let w = reads_facts s n h in (
@@ -114,7 +114,7 @@ read_only s t name offset size e = record {
       );
   writes_kept = λ n bytes h.
       let P : ShelfState → Type 0 = λ x. IsTrue (promises_writes x n bytes) in
-      subst P (sym e) (ap (λ b. none_scheduled s.failing && (b || nat_lt 0 s.places) && nat_le bytes s.room) (held_after s name offset size n) ∙ h);
+      subst P (sym e) (ap (λ b. none_scheduled s.failing && (b || nat_lt 0 s.slots) && nat_le bytes s.room) (held_after s name offset size n) ∙ h);
 }
 
 -- a promised read does not fail
@@ -140,16 +140,16 @@ handed_step true true count (Some f) = omega arith
 handed_step false true count (Some f) = omega arith
 handed_step fails false count u = omega arith
 
-given_is : {E : Type 0} (result : Result ℕ E) (fails : Bool) (count : ℕ) → is_err result ≡ fails → IfOk result (λ k. k ≡ count) → (if fails then 0 else count) ≡ given result
-given_is (Ok k) true count e c = absurd (false≢true e)
-given_is (Ok k) false count e c = sym c
-given_is (Err x) true count e c = refl
-given_is (Err x) false count e c = absurd (false≢true (sym e))
+bytes_given_is : {E : Type 0} (result : Result ℕ E) (fails : Bool) (count : ℕ) → is_err result ≡ fails → IfOk result (λ k. k ≡ count) → (if fails then 0 else count) ≡ bytes_given result
+bytes_given_is (Ok k) true count e c = absurd (false≢true e)
+bytes_given_is (Ok k) false count e c = sym c
+bytes_given_is (Err x) true count e c = refl
+bytes_given_is (Err x) false count e c = absurd (false≢true (sym e))
 
-pub read_handed : {E : Type 0} (s t : ShelfState) (name : List ℕ) (offset size : ℕ) (result : Result ℕ E) → t ≡ read_after s name offset size → is_err result ≡ read_fails s name → IfOk result (λ k. k ≡ read_size s name offset size) → HandsOut name (given result) (shelf_view s) (shelf_view t)
+pub read_handed : {E : Type 0} (s t : ShelfState) (name : List ℕ) (offset size : ℕ) (result : Result ℕ E) → t ≡ read_after s name offset size → is_err result ≡ read_fails s name → IfOk result (λ k. k ≡ read_size s name offset size) → HandsOut name (bytes_given result) (shelf_view s) (shelf_view t)
 read_handed s t name offset size result e exact count = λ n.
-    let P : ℕ → Type 0 = λ k. k ≤ shelf_handed s n + (if bytes_eq n name then given result else 0) in
+    let P : ℕ → Type 0 = λ k. k ≤ shelf_handed s n + (if bytes_eq n name then bytes_given result else 0) in
     let Q : ℕ → Type 0 = λ k. option_map_or (λ f. f.handed) (file_after true (bytes_eq n name) (change s name offset size) (held_under n s.files)) 0 ≤ shelf_handed s n + (if bytes_eq n name then k else 0) in
     subst P (sym (ap (λ x. shelf_handed x n) e ∙ ap (λ u. option_map_or (λ f. f.handed) u 0) (read_under s name offset size n)))
-    (subst Q (given_is result (read_fails s name) (read_size s name offset size) exact count)
+    (subst Q (bytes_given_is result (read_fails s name) (read_size s name offset size) exact count)
     (handed_step (read_fails s name) (bytes_eq n name) (read_size s name offset size) (held_under n s.files)))

@@ -1,15 +1,15 @@
--- what a change of a shelf in memory does to its contents and counts
+-- What a change of a shelf in memory does to its contents and counts.
 use Rattle.std.proofs.Common.{◌≡◌, ◌+◌, ℕ, Bool, true, false, Option, Some, None, List, [], ◌∷◌, ◌++◌, length, get_or, option_map, if◌then◌else◌, is_some, refl, sym, ap, ◌∙◌}
 use Rattle.std.proofs.Math.ListN.{set}
 use Rattle.std.proofs.lemmas.Bool.{false≢true}
 use Rattle.std.specs.Str.{bytes_eq}
 use Rattle.std.proofs.lemmas.Slice.Eq.{bytes_eq-Decides}
 use Rattle.shelf_io.specs.Contents.{Contents, put_bytes}
-use Rattle.shelf_io.specs.Held.{Held, held_under, place_of, change_under, with_bytes}
+use Rattle.shelf_io.specs.Held.{Held, held_under, index_of, change_under, with_bytes}
 use Rattle.shelf_io.specs.MemShelf.{ShelfState, shelf_contents, shelf_with}
 use Rattle.shelf_io.proofs.Files.{under_changed, under_pushed, change_at, read_there, read_nowhere}
 
--- contents with the same files and the same room are one
+-- contents with the same files and the same room are equal
 pub same_contents : (a b : Contents) → ((n : List ℕ) → a.file n ≡ b.file n) → a.room ≡ b.room → a ≡ b
 same_contents a b h r = λ i. record { file = λ n. h n i; room = r i }
 
@@ -64,18 +64,18 @@ pub choose_false : {A : Type 0} (b : Bool) (x y : A) → b ≡ false → y ≡ (
 choose_false true x y h = absurd (false≢true (sym h))
 choose_false false x y h = refl
 
--- bytes put at the place of a held name
-pub with_held : (name bytes : List ℕ) (s : ShelfState) (at : ℕ) (d file : Held) (seen : List Held) → seen ≡ s.files → Some at ≡ place_of name seen → d ≡ get_or s.files at d → file ≡ with_bytes bytes s.room d
+-- bytes put at the index of a held name
+pub with_held : (name bytes : List ℕ) (s : ShelfState) (at : ℕ) (d file : Held) (seen : List Held) → seen ≡ s.files → Some at ≡ index_of name seen → d ≡ get_or s.files at d → file ≡ with_bytes bytes s.room d
     → record s { files = set s.files at file } ≡ shelf_with name bytes s
 with_held name bytes s at d file seen e p g w =
     let new : Held = record { name = name; bytes = bytes; reserved = length bytes + s.room; reads = s.shared_reads; writes = s.shared_writes; handed = 0 } in
     let found = read_there name s.files seen at d e p g in
     let changed : set s.files at file ≡ change_under name (with_bytes bytes s.room) s.files =
-    ap (λ f. set s.files at f) (w ∙ ap (with_bytes bytes s.room) g) ∙ change_at name (with_bytes bytes s.room) s.files at d (ap (place_of name) (sym e) ∙ sym p) in
+    ap (λ f. set s.files at f) (w ∙ ap (with_bytes bytes s.room) g) ∙ change_at name (with_bytes bytes s.room) s.files at d (ap (index_of name) (sym e) ∙ sym p) in
     ap (λ (fs : List Held). record s { files = fs }) (changed ∙ choose_true (is_some (held_under name s.files)) (change_under name (with_bytes bytes s.room) s.files) (s.files ++ new ∷ []) (ap is_some found))
 
 -- bytes put under a name that was not held
-pub with_new : (name bytes : List ℕ) (s : ShelfState) (seen files : List Held) (file : Held) → seen ≡ s.files → None ≡ place_of name seen → file ≡ record { name = name; bytes = bytes; reserved = length bytes + s.room; reads = s.shared_reads; writes = s.shared_writes; handed = 0 } → files ≡ s.files ++ file ∷ []
+pub with_new : (name bytes : List ℕ) (s : ShelfState) (seen files : List Held) (file : Held) → seen ≡ s.files → None ≡ index_of name seen → file ≡ record { name = name; bytes = bytes; reserved = length bytes + s.room; reads = s.shared_reads; writes = s.shared_writes; handed = 0 } → files ≡ s.files ++ file ∷ []
     → record s { files = files } ≡ shelf_with name bytes s
 with_new name bytes s seen files file e p f g =
     let new : Held = record { name = name; bytes = bytes; reserved = length bytes + s.room; reads = s.shared_reads; writes = s.shared_writes; handed = 0 } in

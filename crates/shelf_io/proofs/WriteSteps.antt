@@ -1,25 +1,25 @@
--- a create of a name and an append to it, as changes of the shelf in memory
+-- A create of a name and an append to it, as changes of the shelf in memory.
 use Rattle.std.proofs.Common.{◌≡◌, ◌==◌, ◌+◌, ◌-◌, ◌≤◌, ◌||◌, ◌&&◌, not, ℕ, Bool, true, false, Option, Some, None, List, [], ◌∷◌, ◌++◌, length, take, get_or, option_map, if◌then◌else◌, is_some, IsSome, refl, sym, ap, ◌∙◌, subst, arith}
 use Rattle.std.proofs.Math.ListN.{set}
 use Rattle.std.proofs.lemmas.Bool.{false≢true}
 use Rattle.std.proofs.lemmas.List.Elements.{All-push, All-take}
 use Rattle.std.specs.Str.{bytes_eq}
 use Rattle.shelf_io.specs.Calls.{one_more, is_scheduled}
-use Rattle.shelf_io.specs.Held.{Held, HaveRoom, PlacesHaveRoom, held_under, place_of, change_under, with_failed_write, without_bytes, with_piece}
-use Rattle.shelf_io.specs.MemShelf.{ShelfState, is_held, create_fails, create_after, failed_write, emptied, added, append_fails, append_size, append_after}
+use Rattle.shelf_io.specs.Held.{Held, HaveRoom, SlotsHaveRoom, held_under, index_of, change_under, with_failed_write, without_bytes, with_piece}
+use Rattle.shelf_io.specs.MemShelf.{ShelfState, is_held, create_fails, create_after, failed_write, with_empty_file, with_new_file, append_fails, append_size, append_after}
 use Rattle.shelf_io.proofs.Files.{change_at, change_missing, read_there, read_nowhere}
 use Rattle.shelf_io.proofs.Shelves.{choose_true, choose_false}
 
--- what a test of a call that was told to fail is
-pub or_true : (told rest : Bool) → true ≡ told → true ≡ (told || rest)
+-- whether a call is scheduled to fail or fails for another reason
+pub or_true : (scheduled rest : Bool) → true ≡ scheduled → true ≡ (scheduled || rest)
 or_true true rest h = refl
 or_true false rest h = absurd (false≢true (sym h))
 
-pub or_rest : (told rest : Bool) → true ≡ rest → true ≡ (told || rest)
+pub or_rest : (scheduled rest : Bool) → true ≡ rest → true ≡ (scheduled || rest)
 or_rest true rest h = refl
 or_rest false rest h = h
 
-pub or_neither : (told rest : Bool) → false ≡ told → false ≡ rest → false ≡ (told || rest)
+pub or_neither : (scheduled rest : Bool) → false ≡ scheduled → false ≡ rest → false ≡ (scheduled || rest)
 or_neither true rest h k = absurd (false≢true h)
 or_neither false rest h k = k
 
@@ -43,44 +43,44 @@ failed_is : (s : ShelfState) (name : List ℕ) (files : List Held) (shared calls
     → record s { files = files; shared_writes = shared; calls = calls } ≡ create_after s name
 failed_is s name files shared calls fails f g h =
     (λ i. record s { files = f i; shared_writes = g i; calls = h i })
-    ∙ choose_true (create_fails s name) (failed_write s name) (if is_held s name then emptied s name else added s name) (sym fails)
+    ∙ choose_true (create_fails s name) (failed_write s name) (if is_held s name then with_empty_file s name else with_new_file s name) (sym fails)
 
--- a change at the place of a name
-change_there : (name : List ℕ) (change : Held → Held) (files seen : List Held) (at : ℕ) (d file : Held) → seen ≡ files → Some at ≡ place_of name seen → d ≡ get_or files at d → file ≡ change d → set files at file ≡ change_under name change files
+-- a change at the index of a name
+change_there : (name : List ℕ) (change : Held → Held) (files seen : List Held) (at : ℕ) (d file : Held) → seen ≡ files → Some at ≡ index_of name seen → d ≡ get_or files at d → file ≡ change d → set files at file ≡ change_under name change files
 change_there name change files seen at d file e p g w =
-    ap (λ f. set files at f) (w ∙ ap change g) ∙ change_at name change files at d (ap (place_of name) (sym e) ∙ sym p)
+    ap (λ f. set files at f) (w ∙ ap change g) ∙ change_at name change files at d (ap (index_of name) (sym e) ∙ sym p)
 
--- a create of a held name that was told to fail
-pub told_create : (s : ShelfState) (name : List ℕ) (seen : List Held) (at calls : ℕ) (d file : Held) (told : Bool) → seen ≡ s.files → Some at ≡ place_of name seen → d ≡ get_or s.files at d → told ≡ is_scheduled s.failing s.calls → told ≡ true → file ≡ with_failed_write d → calls ≡ one_more s.calls
+-- a create of a held name that is scheduled to fail
+pub scheduled_create : (s : ShelfState) (name : List ℕ) (seen : List Held) (at calls : ℕ) (d file : Held) (scheduled : Bool) → seen ≡ s.files → Some at ≡ index_of name seen → d ≡ get_or s.files at d → scheduled ≡ is_scheduled s.failing s.calls → scheduled ≡ true → file ≡ with_failed_write d → calls ≡ one_more s.calls
     → record s { files = set s.files at file; calls = calls } ≡ create_after s name
-told_create s name seen at calls d file told e p g t said w h =
+scheduled_create s name seen at calls d file scheduled e p g t said w h =
     failed_is s name (set s.files at file) s.shared_writes calls
-    (or_true (is_scheduled s.failing s.calls) (not (is_held s name) && s.places == 0) (sym said ∙ t))
+    (or_true (is_scheduled s.failing s.calls) (not (is_held s name) && s.slots == 0) (sym said ∙ t))
     (change_there name with_failed_write s.files seen at d file e p g w)
     (held_shared (held_under name s.files) d s.shared_writes (read_there name s.files seen at d e p g)) h
 
--- a create of a held name that was not told to fail passes
-pub held_create_passes : (s : ShelfState) (name : List ℕ) (seen : List Held) (at : ℕ) (d : Held) (told : Bool) → seen ≡ s.files → Some at ≡ place_of name seen → d ≡ get_or s.files at d → told ≡ is_scheduled s.failing s.calls → told ≡ false → false ≡ create_fails s name
-held_create_passes s name seen at d told e p g t unsaid =
-    or_neither (is_scheduled s.failing s.calls) (not (is_held s name) && s.places == 0) (sym unsaid ∙ t)
-    (new_held (held_under name s.files) d (s.places == 0) (read_there name s.files seen at d e p g))
+-- a create of a held name that is not scheduled to fail passes
+pub held_create_passes : (s : ShelfState) (name : List ℕ) (seen : List Held) (at : ℕ) (d : Held) (scheduled : Bool) → seen ≡ s.files → Some at ≡ index_of name seen → d ≡ get_or s.files at d → scheduled ≡ is_scheduled s.failing s.calls → scheduled ≡ false → false ≡ create_fails s name
+held_create_passes s name seen at d scheduled e p g t unsaid =
+    or_neither (is_scheduled s.failing s.calls) (not (is_held s name) && s.slots == 0) (sym unsaid ∙ t)
+    (new_held (held_under name s.files) d (s.slots == 0) (read_there name s.files seen at d e p g))
 
 -- .. and empties the file
-pub held_create : (s : ShelfState) (name : List ℕ) (seen : List Held) (at calls : ℕ) (d file : Held) (told : Bool) → seen ≡ s.files → Some at ≡ place_of name seen → d ≡ get_or s.files at d → told ≡ is_scheduled s.failing s.calls → told ≡ false → file ≡ without_bytes d → calls ≡ one_more s.calls
+pub held_create : (s : ShelfState) (name : List ℕ) (seen : List Held) (at calls : ℕ) (d file : Held) (scheduled : Bool) → seen ≡ s.files → Some at ≡ index_of name seen → d ≡ get_or s.files at d → scheduled ≡ is_scheduled s.failing s.calls → scheduled ≡ false → file ≡ without_bytes d → calls ≡ one_more s.calls
     → record s { files = set s.files at file; calls = calls } ≡ create_after s name
-held_create s name seen at calls d file told e p g t unsaid w h =
+held_create s name seen at calls d file scheduled e p g t unsaid w h =
     let f = change_there name without_bytes s.files seen at d file e p g w in
-    let x : record s { files = set s.files at file; calls = calls } ≡ emptied s name = λ i. record s { files = f i; calls = h i } in
-    x ∙ choose_true (is_held s name) (emptied s name) (added s name) (ap is_some (read_there name s.files seen at d e p g))
-    ∙ choose_false (create_fails s name) (failed_write s name) (if is_held s name then emptied s name else added s name) (sym (held_create_passes s name seen at d told e p g t unsaid))
+    let x : record s { files = set s.files at file; calls = calls } ≡ with_empty_file s name = λ i. record s { files = f i; calls = h i } in
+    x ∙ choose_true (is_held s name) (with_empty_file s name) (with_new_file s name) (ap is_some (read_there name s.files seen at d e p g))
+    ∙ choose_false (create_fails s name) (failed_write s name) (if is_held s name then with_empty_file s name else with_new_file s name) (sym (held_create_passes s name seen at d scheduled e p g t unsaid))
 
--- a create of a new name that was told to fail, or for which no place is left, fails
-pub new_create_fails : (s : ShelfState) (name : List ℕ) (seen : List Held) → seen ≡ s.files → None ≡ place_of name seen → true ≡ (is_scheduled s.failing s.calls || s.places == 0) → true ≡ create_fails s name
+-- a create of a new name that is scheduled to fail, or for which no slot is left, fails
+pub new_create_fails : (s : ShelfState) (name : List ℕ) (seen : List Held) → seen ≡ s.files → None ≡ index_of name seen → true ≡ (is_scheduled s.failing s.calls || s.slots == 0) → true ≡ create_fails s name
 new_create_fails s name seen e p h =
-    h ∙ ap (λ b. is_scheduled s.failing s.calls || b) (new_missing (held_under name s.files) (s.places == 0) (read_nowhere name s.files seen e p))
+    h ∙ ap (λ b. is_scheduled s.failing s.calls || b) (new_missing (held_under name s.files) (s.slots == 0) (read_nowhere name s.files seen e p))
 
 -- .. and raises the shared count
-pub new_create_failed : (s : ShelfState) (name : List ℕ) (seen : List Held) (shared calls : ℕ) → seen ≡ s.files → None ≡ place_of name seen → true ≡ (is_scheduled s.failing s.calls || s.places == 0) → shared ≡ one_more s.shared_writes → calls ≡ one_more s.calls
+pub new_create_failed : (s : ShelfState) (name : List ℕ) (seen : List Held) (shared calls : ℕ) → seen ≡ s.files → None ≡ index_of name seen → true ≡ (is_scheduled s.failing s.calls || s.slots == 0) → shared ≡ one_more s.shared_writes → calls ≡ one_more s.calls
     → record s { shared_writes = shared; calls = calls } ≡ create_after s name
 new_create_failed s name seen shared calls e p f g h =
     let gone = read_nowhere name s.files seen e p in
@@ -88,34 +88,34 @@ new_create_failed s name seen shared calls e p f g h =
     (sym (change_missing name with_failed_write s.files gone))
     (g ∙ missing_shared (held_under name s.files) s.shared_writes gone) h
 
--- a create of a new name for which a place is left passes
-pub new_create_passes : (s : ShelfState) (name : List ℕ) (seen : List Held) → seen ≡ s.files → None ≡ place_of name seen → false ≡ (is_scheduled s.failing s.calls || s.places == 0) → false ≡ create_fails s name
+-- a create of a new name for which a slot is left passes
+pub new_create_passes : (s : ShelfState) (name : List ℕ) (seen : List Held) → seen ≡ s.files → None ≡ index_of name seen → false ≡ (is_scheduled s.failing s.calls || s.slots == 0) → false ≡ create_fails s name
 new_create_passes s name seen e p h =
-    h ∙ ap (λ b. is_scheduled s.failing s.calls || b) (new_missing (held_under name s.files) (s.places == 0) (read_nowhere name s.files seen e p))
+    h ∙ ap (λ b. is_scheduled s.failing s.calls || b) (new_missing (held_under name s.files) (s.slots == 0) (read_nowhere name s.files seen e p))
 
--- .. and puts a file with no bytes behind the others
-pub new_create : (s : ShelfState) (name : List ℕ) (seen files : List Held) (file : Held) (places calls : ℕ) → seen ≡ s.files → None ≡ place_of name seen → false ≡ (is_scheduled s.failing s.calls || s.places == 0) → files ≡ s.files ++ file ∷ []
-    → file ≡ record { name = name; bytes = []; reserved = s.room; reads = s.shared_reads; writes = s.shared_writes; handed = 0 } → places ≡ s.places - 1 → calls ≡ one_more s.calls
-    → record s { files = files; places = places; calls = calls } ≡ create_after s name
-new_create s name seen files file places calls e p passes f w q h =
+-- .. and puts a file with no bytes after the others
+pub new_create : (s : ShelfState) (name : List ℕ) (seen files : List Held) (file : Held) (slots calls : ℕ) → seen ≡ s.files → None ≡ index_of name seen → false ≡ (is_scheduled s.failing s.calls || s.slots == 0) → files ≡ s.files ++ file ∷ []
+    → file ≡ record { name = name; bytes = []; reserved = s.room; reads = s.shared_reads; writes = s.shared_writes; handed = 0 } → slots ≡ s.slots - 1 → calls ≡ one_more s.calls
+    → record s { files = files; slots = slots; calls = calls } ≡ create_after s name
+new_create s name seen files file slots calls e p passes f w q h =
     let pushed = f ∙ ap (λ x. s.files ++ x ∷ []) w in
-    let x : record s { files = files; places = places; calls = calls } ≡ added s name = λ i. record s { files = pushed i; places = q i; calls = h i } in
-    x ∙ choose_false (is_held s name) (emptied s name) (added s name) (ap is_some (read_nowhere name s.files seen e p))
-    ∙ choose_false (create_fails s name) (failed_write s name) (if is_held s name then emptied s name else added s name) (sym (new_create_passes s name seen e p passes))
+    let x : record s { files = files; slots = slots; calls = calls } ≡ with_new_file s name = λ i. record s { files = pushed i; slots = q i; calls = h i } in
+    x ∙ choose_false (is_held s name) (with_empty_file s name) (with_new_file s name) (ap is_some (read_nowhere name s.files seen e p))
+    ∙ choose_false (create_fails s name) (failed_write s name) (if is_held s name then with_empty_file s name else with_new_file s name) (sym (new_create_passes s name seen e p passes))
 
--- a file with no bytes and memory for the room keeps that each file has memory for it
+-- with one more file that has memory for the room, each file still has memory for the room
 pub room_pushed : (room : ℕ) (files pushed : List Held) (file : Held) → HaveRoom room files → length file.bytes + room ≤ file.reserved → pushed ≡ files ++ file ∷ [] → HaveRoom room pushed
 room_pushed room files pushed file h k e =
     let P : List Held → Type 0 = λ xs. HaveRoom room xs in
     subst P (sym e) (All-push (λ (f : Held). length f.bytes + room ≤ f.reserved) files file h k)
 
-pub places_popped : (room n : ℕ) (places popped : List ℕ) → PlacesHaveRoom room places → popped ≡ take n places → PlacesHaveRoom room popped
-places_popped room n places popped h e =
-    let P : List ℕ → Type 0 = λ xs. PlacesHaveRoom room xs in
-    subst P (sym e) (All-take (λ (k : ℕ). room ≤ k) n places h)
+pub slots_popped : (room n : ℕ) (slots popped : List ℕ) → SlotsHaveRoom room slots → popped ≡ take n slots → SlotsHaveRoom room popped
+slots_popped room n slots popped h e =
+    let P : List ℕ → Type 0 = λ xs. SlotsHaveRoom room xs in
+    subst P (sym e) (All-take (λ (k : ℕ). room ≤ k) n slots h)
 
--- an append at the place of a held name
-pub append_there : (s : ShelfState) (name piece : List ℕ) (seen : List Held) (at size room calls : ℕ) (d file : Held) (refused : Bool) → seen ≡ s.files → Some at ≡ place_of name seen → d ≡ get_or s.files at d → refused ≡ append_fails s piece → size ≡ append_size s piece → file ≡ with_piece refused (take size piece) d → room ≡ s.room - size → calls ≡ one_more s.calls
+-- an append at the index of a held name
+pub append_there : (s : ShelfState) (name piece : List ℕ) (seen : List Held) (at size room calls : ℕ) (d file : Held) (refused : Bool) → seen ≡ s.files → Some at ≡ index_of name seen → d ≡ get_or s.files at d → refused ≡ append_fails s piece → size ≡ append_size s piece → file ≡ with_piece refused (take size piece) d → room ≡ s.room - size → calls ≡ one_more s.calls
     → record s { files = set s.files at file; room = room; calls = calls } ≡ append_after s name piece
 append_there s name piece seen at size room calls d file refused e p g r z w q h =
     let f = change_there name (with_piece refused (take size piece)) s.files seen at d file e p g w
@@ -131,18 +131,18 @@ new_fits room reads writes name file e =
     let least : 0 + room ≤ room = omega arith in
     subst P (sym e) least
 
-placed_step : {A : Type 0} (bytes : Held → A) (b : Bool) (f : Held) (p : Option ℕ) (u : Option Held) → is_some p ≡ is_some (option_map bytes u) → is_some (if b then Some 0 else option_map (λ (k : ℕ). k + 1) p) ≡ is_some (option_map bytes (if b then Some f else u))
-placed_step bytes true f p u h = refl
-placed_step bytes false f None u h = h
-placed_step bytes false f (Some k) u h = h
+index_step : {A : Type 0} (bytes : Held → A) (b : Bool) (f : Held) (p : Option ℕ) (u : Option Held) → is_some p ≡ is_some (option_map bytes u) → is_some (if b then Some 0 else option_map (λ (k : ℕ). k + 1) p) ≡ is_some (option_map bytes (if b then Some f else u))
+index_step bytes true f p u h = refl
+index_step bytes false f None u h = h
+index_step bytes false f (Some k) u h = h
 
-placed_same : (name : List ℕ) (files : List Held) → is_some (place_of name files) ≡ is_some (option_map (λ f. f.bytes) (held_under name files))
-placed_same name [] = refl
-placed_same name (f ∷ fs) = placed_step (λ f. f.bytes) (bytes_eq f.name name) f (place_of name fs) (held_under name fs) (placed_same name fs)
+index_same : (name : List ℕ) (files : List Held) → is_some (index_of name files) ≡ is_some (option_map (λ f. f.bytes) (held_under name files))
+index_same name [] = refl
+index_same name (f ∷ fs) = index_step (λ f. f.bytes) (bytes_eq f.name name) f (index_of name fs) (held_under name fs) (index_same name fs)
 
--- a held name has a place
-pub placed : (name : List ℕ) (files seen : List Held) (place : Option ℕ) → seen ≡ files → place ≡ place_of name seen → IsSome (option_map (λ f. f.bytes) (held_under name files)) → IsSome place
-placed name files seen place e p h =
+-- a held name has an index
+pub index_exists : (name : List ℕ) (files seen : List Held) (index : Option ℕ) → seen ≡ files → index ≡ index_of name seen → IsSome (option_map (λ f. f.bytes) (held_under name files)) → IsSome index
+index_exists name files seen index e p h =
     let P : Bool → Type 0 = λ b. b ≡ true in
-    let same : is_some place ≡ is_some (option_map (λ f. f.bytes) (held_under name files)) = ap is_some p ∙ ap (λ fs. is_some (place_of name fs)) e ∙ placed_same name files in
+    let same : is_some index ≡ is_some (option_map (λ f. f.bytes) (held_under name files)) = ap is_some p ∙ ap (λ fs. is_some (index_of name fs)) e ∙ index_same name files in
     subst P (sym same) h

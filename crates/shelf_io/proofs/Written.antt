@@ -1,4 +1,4 @@
--- a create and appends one after the other, as one change of the contents: for callers that write a file in pieces
+-- A create followed by appends, as one change of the contents, for callers that write a file in pieces.
 use Rattle.std.proofs.Common.{◌≡◌, ◌-◌, ◌≤◌, ℕ, Bool, true, false, Option, Some, None, List, [], ◌++◌, length, option_map, if◌then◌else◌, IsSome, IfSome, refl, sym, ap, ◌∙◌, subst, arith, length-append}
 use Rattle.std.specs.Option.{ForSome}
 use Rattle.std.specs.Str.{bytes_eq}
@@ -7,7 +7,7 @@ use Rattle.shelf_io.specs.Contents.{Contents, AddsTo, add_piece, put_bytes, writ
 use Rattle.shelf_io.proofs.Changes.{same_name}
 use Rattle.shelf_io.proofs.Shelves.{same_contents}
 
--- a created name is one under which no bytes were written
+-- to create a name is to write no bytes under it
 written_none_of : (name : List ℕ) (c : Contents) → put_bytes name [] c ≡ write_bytes name [] c
 written_none_of name c = same_contents (put_bytes name [] c) (write_bytes name [] c) (λ _. refl) (omega arith)
 
@@ -15,14 +15,14 @@ piece_step : (q : Bool) (bytes piece : List ℕ) (u : Option (List ℕ)) → (if
 piece_step true bytes piece u = refl
 piece_step false bytes piece u = refl
 
--- a piece behind written bytes is written with them
+-- to append a piece to written bytes is to write the bytes and the piece
 written_more_of : (name bytes piece : List ℕ) (c : Contents) → add_piece name piece (write_bytes name bytes c) ≡ write_bytes name (bytes ++ piece) c
 written_more_of name bytes piece c =
     same_contents (add_piece name piece (write_bytes name bytes c)) (write_bytes name (bytes ++ piece) c)
     (λ n. piece_step (bytes_eq n name) bytes piece (c.file n))
     (simp length-append (omega arith))
 
--- after a create: what the shelf tells is its old contents with no bytes under the name
+-- after a create, the known contents are the old ones with no bytes under the name
 pub written_none : (name : List ℕ) (old now : Option Contents) → now ≡ option_map (put_bytes name []) old → now ≡ option_map (write_bytes name []) old
 written_none name None now h = h
 written_none name (Some c) now h = h ∙ ap (λ x. Some x) (written_none_of name c)
@@ -35,7 +35,7 @@ more_of name bytes piece (Some c) = ap (λ x. Some x) (written_more_of name byte
 pub written_more : (name bytes piece : List ℕ) (old between now : Option Contents) → between ≡ option_map (write_bytes name bytes) old → AddsTo name piece between now → now ≡ option_map (write_bytes name (bytes ++ piece)) old
 written_more name bytes piece old between now b a = a.0 ∙ ap (option_map (add_piece name piece)) b ∙ more_of name bytes piece old
 
--- what was written fits the room
+-- the written bytes fit the room
 pub written_fits : (name bytes piece : List ℕ) (old between now : Option Contents) → between ≡ option_map (write_bytes name bytes) old → IfSome old (λ c. length bytes ≤ c.room) → AddsTo name piece between now → IfSome old (λ c. length (bytes ++ piece) ≤ c.room)
 written_fits name bytes piece None between now b f a = tt
 written_fits name bytes piece (Some c) between now b f a =
@@ -50,7 +50,7 @@ some_there false bytes u h = absurd (false≢true h)
 none_some : (c : Contents) → None ≡ Some c → ⊥
 none_some c h = cc
 
--- a written name is held, as an append asks
+-- a written name is held, as an append requires
 pub written_held : (name bytes : List ℕ) (old now : Option Contents) → now ≡ option_map (write_bytes name bytes) old → ForSome now (λ c. IsSome (c.file name))
 written_held name bytes None now h = λ c e. absurd (none_some c (sym h ∙ e))
 written_held name bytes (Some d) now h = λ c e.

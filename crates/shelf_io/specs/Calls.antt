@@ -1,12 +1,12 @@
--- calls of an object in memory: which of them fail, and what a call that takes a piece takes of it
+-- Calls of a shelf or a sink in memory: which of them fail, and how much of its piece a call takes.
 use Rattle.std.specs.Prelude.{◌==◌, ◌||◌, ◌+◌, ◌-◌, ◌/◌, ◌^◌, ℕ, Bool, true, false, List, [], ◌∷◌, min, nat_lt, if◌then◌else◌}
 use Rattle.std.specs.List.{list_any}
 
--- a count with one more, which stays at its last value
+-- a count plus one, which stays at 2^64 - 1 once it has reached it
 abbrev pub one_more : ℕ → ℕ
 one_more count = if nat_lt count (2 ^ 64 - 1) then count + 1 else count
 
--- a count with so many more, which stays at its last value
+-- a count plus `more`, which stays at 2^64 - 1 once it has reached it
 abbrev pub count_more : ℕ → ℕ → ℕ
 count_more more count = min (count + more) (2 ^ 64 - 1)
 

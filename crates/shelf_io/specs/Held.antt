@@ -1,4 +1,4 @@
--- the files of a shelf in memory, one after the other
+-- The files of a shelf in memory, as a list.
 use Rattle.std.specs.Prelude.{◌+◌, ◌≤◌, ℕ, length, Bool, Option, Some, None, List, [], ◌∷◌, ◌++◌, if◌then◌else◌, option_map}
 use Rattle.std.specs.List.{All}
 use Rattle.std.specs.Str.{bytes_eq}
@@ -19,18 +19,18 @@ abbrev pub held_under : List ℕ → List Held → Option Held
 held_under name [] = None
 held_under name (file ∷ files) = if bytes_eq file.name name then Some file else held_under name files
 
--- where the file under the name stands
-abbrev pub place_of : List ℕ → List Held → Option ℕ
-place_of name [] = None
-place_of name (file ∷ files) = if bytes_eq file.name name then Some 0 else option_map (λ at. at + 1) (place_of name files)
+-- the index of the file under the name
+abbrev pub index_of : List ℕ → List Held → Option ℕ
+index_of name [] = None
+index_of name (file ∷ files) = if bytes_eq file.name name then Some 0 else option_map (λ at. at + 1) (index_of name files)
 
--- the files with that under the name changed
+-- the files, with the one under the name changed
 abbrev pub change_under : List ℕ → (Held → Held) → List Held → List Held
 change_under name change [] = []
 change_under name change (file ∷ files) =
     if bytes_eq file.name name then change file ∷ files else file ∷ change_under name change files
 
--- a file with these bytes in a new buffer, which was made for so many bytes more
+-- a file with these bytes in a new buffer, which has room for `room` more
 abbrev pub with_bytes : List ℕ → ℕ → Held → Held
 with_bytes bytes room file = record file { bytes = bytes; reserved = length bytes + room }
 
@@ -38,11 +38,11 @@ with_bytes bytes room file = record file { bytes = bytes; reserved = length byte
 abbrev pub with_failed_read : Held → Held
 with_failed_read file = record file { reads = one_more file.reads }
 
--- a file of which so many bytes more were handed out
+-- a file with this many more bytes handed out
 abbrev pub with_handed : ℕ → Held → Held
 with_handed count file = record file { handed = count_more count file.handed }
 
--- a file after a read, which failed or gave so many bytes
+-- a file after a read that failed or returned this many bytes
 abbrev pub with_read : Bool → ℕ → Held → Held
 with_read fails count file = if fails then with_failed_read file else with_handed count file
 
@@ -59,10 +59,10 @@ abbrev pub with_piece : Bool → List ℕ → Held → Held
 with_piece fails piece file =
     record file { bytes = file.bytes ++ piece; writes = if fails then one_more file.writes else file.writes }
 
--- each file has memory for so many bytes more
+-- each file has memory for `room` more bytes
 abbrev pub HaveRoom : ℕ → List Held → Type 0
 HaveRoom room files = All (λ file. length file.bytes + room ≤ file.reserved) files
 
--- each place has memory for so many bytes
-abbrev pub PlacesHaveRoom : ℕ → List ℕ → Type 0
-PlacesHaveRoom room places = All (λ reserved. room ≤ reserved) places
+-- each slot has memory for `room` bytes
+abbrev pub SlotsHaveRoom : ℕ → List ℕ → Type 0
+SlotsHaveRoom room slots = All (λ reserved. room ≤ reserved) slots

@@ -1,4 +1,4 @@
--- a shelf in memory, and what its calls make of it
+-- A shelf in memory, and how its calls change it.
 use Rattle.std.specs.Prelude.{◌==◌, ◌&&◌, ◌+◌, ◌-◌, ◌^◌, ◌||◌, not, ℕ, Bool, List, [], ◌∷◌, ◌++◌, length, take, min, if◌then◌else◌, option_map, is_some, Some, nat_le, nat_lt}
 use Rattle.std.specs.Option.{option_map_or}
 use Rattle.shelf_io.specs.Calls.{one_more, is_scheduled, none_scheduled, is_refused, fitting}
@@ -6,22 +6,22 @@ use Rattle.shelf_io.specs.Contents.{Contents}
 use Rattle.shelf_io.specs.View.{ShelfView}
 use Rattle.shelf_io.specs.Held.{Held, held_under, change_under, with_bytes, with_failed_write, with_read, without_bytes, with_piece}
 
--- the files, the counts that names which are not held share, the room for appended bytes, the places for new names,
--- how many bytes a read gives at most, how many calls there were, and the numbers of the calls that fail
+-- the files, the counts that all names which are not held share, the room for appended bytes, the number of slots for new
+-- names, the most bytes that a read returns, how many calls there have been, and the numbers of the calls that fail
 pub record ShelfState : Type 0 where
   pub files : List Held
   pub shared_reads : ℕ
   pub shared_writes : ℕ
   pub room : ℕ
-  pub places : ℕ
+  pub slots : ℕ
   pub most : ℕ
   pub calls : ℕ
   pub failing : List ℕ
 
 -- a shelf that holds no file
 abbrev pub fresh_shelf : ℕ → ℕ → ShelfState
-fresh_shelf room places =
-    record { files = []; shared_reads = 0; shared_writes = 0; room = room; places = places; most = 2 ^ 64 - 1; calls = 0; failing = [] }
+fresh_shelf room slots =
+    record { files = []; shared_reads = 0; shared_writes = 0; room = room; slots = slots; most = 2 ^ 64 - 1; calls = 0; failing = [] }
 
 -- the name is held
 abbrev pub is_held : ShelfState → List ℕ → Bool
@@ -47,9 +47,9 @@ shelf_handed s name = option_map_or (λ file. file.handed) (held_under name s.fi
 abbrev pub promises_reads : ShelfState → List ℕ → Bool
 promises_reads s name = none_scheduled s.failing && is_held s name
 
--- no call is scheduled to fail, the name is held or there is a place for it, and there is room for so many bytes
+-- no call is scheduled to fail, the name is held or there is a slot for it, and there is room for this many bytes
 abbrev pub promises_writes : ShelfState → List ℕ → ℕ → Bool
-promises_writes s name bytes = none_scheduled s.failing && (is_held s name || nat_lt 0 s.places) && nat_le bytes s.room
+promises_writes s name bytes = none_scheduled s.failing && (is_held s name || nat_lt 0 s.slots) && nat_le bytes s.room
 
 -- all that callers know of the shelf
 abbrev pub shelf_view : ShelfState → ShelfView
@@ -75,12 +75,12 @@ shelf_with name bytes s = record s {
 abbrev pub read_fails : ShelfState → List ℕ → Bool
 read_fails s name = is_scheduled s.failing s.calls || not (is_held s name)
 
--- how many bytes a read that does not fail gives, into so many
+-- how many bytes a read that does not fail returns, into a buffer of `size` bytes
 abbrev pub read_size : ShelfState → List ℕ → (offset size : ℕ) → ℕ
 read_size s name offset size =
     min s.most (min size (option_map_or (λ file. length file.bytes - offset) (held_under name s.files) 0))
 
--- the shelf after the next call, a read of the name from the offset on into so many bytes
+-- the shelf after the next call, a read of the name from the offset on into a buffer of `size` bytes
 abbrev pub read_after : ShelfState → List ℕ → (offset size : ℕ) → ShelfState
 read_after s name offset size = record s {
   files = change_under name (with_read (read_fails s name) (read_size s name offset size)) s.files;
@@ -88,9 +88,9 @@ read_after s name offset size = record s {
   calls = one_more s.calls;
 }
 
--- the next call is scheduled to fail, or the name is new and no place is left
+-- the next call is scheduled to fail, or the name is new and no slot is left
 abbrev pub create_fails : ShelfState → List ℕ → Bool
-create_fails s name = is_scheduled s.failing s.calls || (not (is_held s name) && s.places == 0)
+create_fails s name = is_scheduled s.failing s.calls || (not (is_held s name) && s.slots == 0)
 
 -- the shelf after a call that failed to write the name
 abbrev pub failed_write : ShelfState → List ℕ → ShelfState
@@ -101,20 +101,20 @@ failed_write s name = record s {
 }
 
 -- the shelf after a call that emptied the file of a held name
-abbrev pub emptied : ShelfState → List ℕ → ShelfState
-emptied s name = record s { files = change_under name without_bytes s.files; calls = one_more s.calls }
+abbrev pub with_empty_file : ShelfState → List ℕ → ShelfState
+with_empty_file s name = record s { files = change_under name without_bytes s.files; calls = one_more s.calls }
 
--- the shelf after a call that gave a new name a place, with the counts that names which are not held share
-abbrev pub added : ShelfState → List ℕ → ShelfState
-added s name = record s {
+-- the shelf after a call that used a slot for a new name, with the counts that names which are not held share
+abbrev pub with_new_file : ShelfState → List ℕ → ShelfState
+with_new_file s name = record s {
   files = s.files ++ record { name = name; bytes = []; reserved = s.room; reads = s.shared_reads; writes = s.shared_writes; handed = 0 } ∷ [];
-  places = s.places - 1;
+  slots = s.slots - 1;
   calls = one_more s.calls;
 }
 
 -- the shelf after the next call, a create of the name
 abbrev pub create_after : ShelfState → List ℕ → ShelfState
-create_after s name = if create_fails s name then failed_write s name else (if is_held s name then emptied s name else added s name)
+create_after s name = if create_fails s name then failed_write s name else (if is_held s name then with_empty_file s name else with_new_file s name)
 
 -- the next call is scheduled to fail, or the piece is longer than the room
 abbrev pub append_fails : ShelfState → List ℕ → Bool
@@ -136,6 +136,6 @@ append_after s name piece = record s {
 abbrev pub failing_shelf : ℕ → ShelfState → ShelfState
 failing_shelf call s = record s { failing = s.failing ++ call ∷ [] }
 
--- the shelf with reads of at most so many bytes
+-- the shelf with reads limited to `most` bytes
 abbrev pub short_reads : ℕ → ShelfState → ShelfState
 short_reads most s = record s { most = most }

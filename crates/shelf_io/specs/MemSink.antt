@@ -1,10 +1,10 @@
--- a sink in memory, and what its calls make of it
+-- A sink in memory, and how its calls change it.
 use Rattle.std.specs.Prelude.{◌-◌, ◌&&◌, ℕ, Bool, List, [], ◌∷◌, ◌++◌, length, take, if◌then◌else◌, Some, nat_le}
 use Rattle.shelf_io.specs.View.{SinkView}
 use Rattle.shelf_io.specs.Calls.{one_more, is_scheduled, none_scheduled, is_refused, fitting}
 
--- the bytes taken, how many more it can take, its count of faults, how many calls of put there were,
--- and the numbers of the calls that fail
+-- the bytes taken, how many more it can take, its count of faults, how many calls of put there have been, and the
+-- numbers of the calls that fail
 pub record SinkState : Type 0 where
   pub taken : List ℕ
   pub room : ℕ
@@ -12,7 +12,7 @@ pub record SinkState : Type 0 where
   pub calls : ℕ
   pub failing : List ℕ
 
--- a sink that took nothing, with this room
+-- a sink that has taken nothing yet, with this room
 abbrev pub fresh_sink : ℕ → SinkState
 fresh_sink room = record { taken = []; room = room; faults = 0; calls = 0; failing = [] }
 
@@ -38,7 +38,7 @@ put_after s piece = record {
 abbrev pub failing_sink : ℕ → SinkState → SinkState
 failing_sink call s = record s { failing = s.failing ++ call ∷ [] }
 
--- no call is scheduled to fail, and there is room for so many bytes
+-- no call is scheduled to fail, and there is room for this many bytes
 abbrev pub promises_puts : SinkState → ℕ → Bool
 promises_puts s bytes = none_scheduled s.failing && nat_le bytes s.room
 

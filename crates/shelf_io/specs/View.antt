@@ -1,10 +1,10 @@
--- What is known of a shelf and of a sink at one moment.
+-- What contracts know of a shelf and of a sink at one moment.
 use Rattle.std.specs.Prelude.{ℕ, Bool, false, List, Option, None}
 use Rattle.shelf_io.specs.Contents.{Contents}
 
--- the files and the room, where the shelf makes them known; how many reads and how many writes of a name failed; how
--- many bytes reads of a name handed out; whether reads of a name are promised to succeed, whatever is called; and
--- whether it is promised that a name can be created and so many bytes in all be appended with no failure
+-- the files and the room, where they are known; how many reads and how many writes of a name have failed; how many bytes
+-- reads of a name have handed out; whether reads of a name are promised to succeed, whatever is called; and whether it is
+-- promised that a name can be created and this many bytes in all be appended with no failure
 pub record ShelfView : Type 0 where
   pub contents : Option Contents
   pub read_faults : List ℕ → ℕ
@@ -13,8 +13,8 @@ pub record ShelfView : Type 0 where
   pub reads_promised : List ℕ → Bool
   pub writes_promised : List ℕ → ℕ → Bool
 
--- the bytes taken so far, where the sink makes them known; how many puts failed; and whether it is promised that so many
--- bytes in all can be put with no failure
+-- the bytes taken so far, where they are known; how many puts have failed; and whether it is promised that this many bytes
+-- in all can be put with no failure
 pub record SinkView : Type 0 where
   pub taken : Option (List ℕ)
   pub faults : ℕ

@@ -1,4 +1,4 @@
--- What comes of a file that is read whole, within a limit.
+-- The result of reading a whole file within a limit.
 use Rattle.std.specs.Prelude.{Bool, true, false, Result, Ok, Err}
 use Rattle.shelf_io.specs.declared.whole_file.TakeFault.{TakeFault}
 use Rattle.shelf_io.specs.declared.whole_file.TakeFault.TheVariants as fault

@@ -1,7 +1,7 @@
 ghost use Rattle.std.specs.Prelude.{◌≡◌};
 ghost use Rattle.shelf_io.specs.Calls.{fitting, is_scheduled};
 
-// Whether the next call after so many calls is one of those that fail.
+// Whether the call that follows this many calls is scheduled to fail.
 pub(crate) fn is_scheduled(failing: &[u64], calls: u64) -> bool
     ensures { result ≡ is_scheduled failing.now calls }
 {
@@ -9,7 +9,7 @@ pub(crate) fn is_scheduled(failing: &[u64], calls: u64) -> bool
     failing.iter().any(|number| u128::from(*number) == next)
 }
 
-// How many bytes of a piece of this size a call takes.
+// How many bytes a call takes of a piece of this size, where this much room is left.
 pub(crate) fn fitting(scheduled: bool, room: usize, size: usize) -> usize
     ensures { result ≡ fitting scheduled room size }
 {

@@ -4,8 +4,8 @@ ghost use Rattle.shelf_io.specs.Calls.{one_more};
 use crate::failed::Failed;
 use std::io;
 
-// The answer of the system, with an error counted as a fault.
-pub(crate) fn noted<T>(done: io::Result<T>, faults: &mut u64) -> Result<T, Failed>
+// Passes on the result of a system call, and counts an error as a fault.
+pub(crate) fn count_error<T>(done: io::Result<T>, faults: &mut u64) -> Result<T, Failed>
     ensures value { IfOk result (λ value. done ≡ Ok value) }
     ensures counted { faults.new ≡ (if is_err result then one_more faults.old else faults.old) }
 {

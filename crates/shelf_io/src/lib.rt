@@ -1,5 +1,5 @@
-//! Files and output after two traits, with shelves and sinks in memory and over the real system,
-//! and the reading of a whole file within a limit.
+//! Files and output through two traits, `Shelf` and `Sink`, each implemented in memory and over the
+//! real system, and a function that reads a whole file within a limit.
 #![tactic(auto)]
 
 mod calls;
@@ -8,11 +8,11 @@ mod faults;
 mod mem_shelf;
 mod mem_sink;
 mod open_file;
-mod place;
 mod real_shelf;
 mod real_sink;
 mod shelf;
 mod sink;
+mod slot;
 mod stored;
 mod whole_file;
 

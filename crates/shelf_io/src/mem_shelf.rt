@@ -1,9 +1,9 @@
 ghost use Rattle.std.specs.Prelude.{◌≡◌, ◌≤◌, ◌<◌, ℕ, vec_len, IfOk, OnOk, OnErr, IfSome, length, option_map};
 ghost use Rattle.shelf_io.specs.Contents.{put_bytes};
-ghost use Rattle.shelf_io.specs.Held.{PlacesHaveRoom, place_of};
+ghost use Rattle.shelf_io.specs.Held.{SlotsHaveRoom, index_of};
 ghost use Rattle.shelf_io.specs.MemShelf.{failing_shelf, fresh_shelf, shelf_contents, shelf_handed, shelf_with, short_reads};
 
-use crate::place::Place;
+use crate::slot::Slot;
 use crate::stored::Stored;
 use std::alloc::{AllocError, Global};
 use std::marker::Model;
@@ -14,14 +14,14 @@ mod writing;
 
 /// A shelf that keeps its files in memory.
 ///
-/// The room for the bytes that can be appended, over all files, and the places for new names are
-/// taken when it is made, and no call gives them back. Calls of `read_at`, `create` and `append`
+/// The room for bytes that can be appended, over all files, and the slots for new names are
+/// reserved when it is made, and no call gives them back. Calls of `read_at`, `create` and `append`
 /// are numbered together from 1, those that fail included.
 #[derive(Debug, Drop)]
 pub struct MemShelf {
     alloc: Global,
     files: Vec<Stored>,
-    spare: Vec<Place>,
+    spare: Vec<Slot>,
     shared_reads: u64,
     shared_writes: u64,
     room: usize,
@@ -33,7 +33,7 @@ pub struct MemShelf {
 impl Model for MemShelf {
     ghost use Rattle.std.specs.Prelude.{◌+◌, ◌≤◌, vec_len};
     ghost use Rattle.std.specs.Vec.{vec_capacity};
-    ghost use Rattle.shelf_io.specs.Held.{HaveRoom, PlacesHaveRoom};
+    ghost use Rattle.shelf_io.specs.Held.{HaveRoom, SlotsHaveRoom};
     ghost use Rattle.shelf_io.specs.MemShelf.{ShelfState};
 
     ghost Value = { ShelfState };
@@ -43,20 +43,20 @@ impl Model for MemShelf {
       shared_reads = s.shared_reads;
       shared_writes = s.shared_writes;
       room = s.room;
-      places = vec_len s.spare;
+      slots = vec_len s.spare;
       most = s.most;
       calls = s.calls;
       failing = s.failing.items;
     } };
 
     ghost invariant = { λ s.
-        HaveRoom s.room s.files.items × PlacesHaveRoom s.room s.spare.items
+        HaveRoom s.room s.files.items × SlotsHaveRoom s.room s.spare.items
         × (vec_len s.files + vec_len s.spare ≤ vec_capacity s.files) × (1 ≤ s.most) };
 }
 
-// Where the file of this name stands.
-fn place_of(files: &[Stored], name: &str) -> Option<usize>
-    ensures place { result ≡ place_of name.now files.now }
+// The index of the file with this name.
+fn index_of(files: &[Stored], name: &str) -> Option<usize>
+    ensures index { result ≡ index_of name.now files.now }
     ensures inside { IfSome result (λ at. at < length files.now) }
 {
     for (at, file) in files.iter().enumerate() {
@@ -68,15 +68,15 @@ fn place_of(files: &[Stored], name: &str) -> Option<usize>
 }
 
 impl MemShelf {
-    /// A shelf with no file, room for so many appended bytes over all files, and places for so many
-    /// new names of up to 255 bytes.
-    pub fn empty(alloc: Global, room: usize, places: usize) -> Result<MemShelf, AllocError>
-        ensures { IfOk result (λ shelf. shelf ≡ fresh_shelf room places) }
+    /// A shelf with no file, with room for `room` appended bytes over all files, and with `slots`
+    /// slots for new names of up to 255 bytes.
+    pub fn empty(alloc: Global, room: usize, slots: usize) -> Result<MemShelf, AllocError>
+        ensures { IfOk result (λ shelf. shelf ≡ fresh_shelf room slots) }
     {
         Ok(MemShelf {
             alloc,
-            files: Vec::with_capacity(alloc, places)?,
-            spare: reserve_places(alloc, room, places)?,
+            files: Vec::with_capacity(alloc, slots)?,
+            spare: reserve_slots(alloc, room, slots)?,
             shared_reads: 0,
             shared_writes: 0,
             room,
@@ -86,15 +86,16 @@ impl MemShelf {
         })
     }
 
-    /// Puts these bytes under the name. This is no call and takes no room and no place, and a name
-    /// that was held keeps its counts. Where memory runs out, the shelf is as before.
+    /// Puts these bytes under the name. This does not count as a call and takes no room and no
+    /// slot, and a name that was held keeps its counts. Where memory runs out, the shelf is as
+    /// before.
     pub fn put_file(&mut self, name: &str, bytes: &[u8]) -> Result<(), AllocError>
         ensures ok { OnOk result (self.new ≡ shelf_with name.now bytes.now self.old) }
         ensures contents { OnOk result
             (shelf_contents self.new ≡ put_bytes name.now bytes.now (shelf_contents self.old)) }
         ensures err { OnErr result (self.new ≡ self.old) }
     {
-        match place_of(&self.files, name) {
+        match index_of(&self.files, name) {
             Some(at) => {
                 let file = &mut self.files[at];
                 file.put(self.alloc, bytes, self.room)
@@ -115,7 +116,7 @@ impl MemShelf {
         }
     }
 
-    /// Lets the call of this number fail. Where memory runs out, the shelf is as before.
+    /// Schedules the call of this number to fail. Where memory runs out, the shelf is as before.
     pub fn fail_at(&mut self, call: u64) -> Result<(), AllocError>
         ensures ok { OnOk result (self.new ≡ failing_shelf call self.old) }
         ensures err { OnErr result (self.new ≡ self.old) }
@@ -124,7 +125,7 @@ impl MemShelf {
         Ok(())
     }
 
-    /// Lets each read from now on give at most so many bytes.
+    /// Makes each read from now on return at most `most` bytes.
     pub fn read_most(&mut self, most: usize)
         requires { 1 ≤ most }
         ensures { self.new ≡ short_reads most self.old }
@@ -132,12 +133,12 @@ impl MemShelf {
         self.most = most;
     }
 
-    /// How many bytes reads of the name gave so far, 0 where it is not held. The count stays at
-    /// `u64::MAX` once it is there.
+    /// How many bytes reads of the name have returned so far, 0 where it is not held. The count
+    /// stays at `u64::MAX` once it has reached it.
     pub fn handed(&self, name: &str) -> u64
         ensures { result ≡ shelf_handed self.now name.now }
     {
-        match place_of(&self.files, name) {
+        match index_of(&self.files, name) {
             Some(at) => self.files[at].handed(),
             None => 0,
         }
@@ -147,21 +148,21 @@ impl MemShelf {
     pub fn file(&self, name: &str) -> Option<&[u8]>
         ensures { option_map (λ bytes. bytes.now) result ≡ (shelf_contents self.now).file name.now }
     {
-        match place_of(&self.files, name) {
+        match index_of(&self.files, name) {
             Some(at) => Some(self.files[at].bytes()),
             None => None,
         }
     }
 }
 
-// So many places, each with this room.
-fn reserve_places(alloc: Global, room: usize, places: usize) -> Result<Vec<Place>, AllocError>
-    ensures count { IfOk result (λ spare. vec_len spare ≡ places) }
-    ensures each { IfOk result (λ spare. PlacesHaveRoom room spare.items) }
+// This many slots, each with memory for `room` bytes.
+fn reserve_slots(alloc: Global, room: usize, slots: usize) -> Result<Vec<Slot>, AllocError>
+    ensures count { IfOk result (λ spare. vec_len spare ≡ slots) }
+    ensures each { IfOk result (λ spare. SlotsHaveRoom room spare.items) }
 {
-    let mut spare = Vec::with_capacity(alloc, places)?;
-    for _ in 0..places {
-        spare.push(Place::reserve(alloc, room)?)?;
+    let mut spare = Vec::with_capacity(alloc, slots)?;
+    for _ in 0..slots {
+        spare.push(Slot::reserve(alloc, room)?)?;
     }
     Ok(spare)
 }

@@ -8,10 +8,10 @@ use crate::sink::Sink;
 use std::alloc::{AllocError, Global};
 use std::marker::Model;
 
-/// A sink that keeps what it takes in memory, with the room for it taken when it is made.
+/// A sink that keeps the bytes it takes in memory, which is reserved when the sink is made.
 ///
-/// Calls of `put` are numbered from 1, those that fail included. A call fails where its number was
-/// given to `fail_at`, or where its piece is longer than the room that is left, and nowhere else.
+/// Calls of `put` are numbered from 1, those that fail included. A call fails exactly where its
+/// number was passed to `fail_at` or its piece is longer than the room that is left.
 #[derive(Debug, Drop)]
 pub struct MemSink {
     bytes: Vec<u8>,
@@ -40,7 +40,7 @@ impl Model for MemSink {
 }
 
 impl MemSink {
-    /// A sink with room for so many bytes.
+    /// A sink with room for this many bytes.
     pub fn empty(alloc: Global, room: usize) -> Result<MemSink, AllocError>
         ensures { IfOk result (λ sink. sink ≡ fresh_sink room) }
     {
@@ -53,7 +53,7 @@ impl MemSink {
         })
     }
 
-    /// Lets the call of this number fail. Where memory runs out, the sink is as before.
+    /// Schedules the call of this number to fail. Where memory runs out, the sink is as before.
     pub fn fail_at(&mut self, call: u64) -> Result<(), AllocError>
         ensures ok { OnOk result (self.new ≡ failing_sink call self.old) }
         ensures err { OnErr result (self.new ≡ self.old) }

@@ -6,11 +6,11 @@ use std::io::{Read, Seek, SeekFrom, Write};
 use std::rt::Files;
 use std::{fs, io};
 
-// How many times an interrupted read is tried.
+// How many times a read is tried while it is interrupted.
 const TRIES: usize = 10_000;
 
-// A file that stays open between calls. A name of more than 255 bytes is not kept, so that each
-// call opens it anew.
+// A file that stays open between calls. A name of more than 255 bytes is not stored, so that each
+// call opens such a file anew.
 #[derive(Drop)]
 pub(crate) struct OpenFile {
     name: Option<ArrayString<255>>,
@@ -27,7 +27,7 @@ impl OpenFile {
         }
     }
 
-    // The file of this name, to be read from the offset on.
+    // Opens the file of this name for reading from the offset on.
     pub(crate) fn to_read<R: Files<File = File>>(
         rt: &R,
         name: &str,
@@ -40,12 +40,12 @@ impl OpenFile {
         Ok(OpenFile::of(name, file, offset))
     }
 
-    // The file of this name, made to hold no bytes.
+    // Creates the file of this name, or empties it.
     pub(crate) fn to_fill<R: Files<File = File>>(rt: &R, name: &str) -> io::Result<OpenFile> {
         Ok(OpenFile::of(name, fs::create(rt, name)?, 0))
     }
 
-    // The file of this name, to be written to at its end.
+    // Opens the file of this name for writing at its end.
     pub(crate) fn to_append<R: Files<File = File>>(rt: &R, name: &str) -> io::Result<OpenFile> {
         let file = OpenOptions::new().append(true).open(rt, name)?;
         Ok(OpenFile::of(name, file, 0))
@@ -62,7 +62,7 @@ impl OpenFile {
         self.offset
     }
 
-    // The next bytes. An interrupted read is tried again.
+    // Reads the next bytes. An interrupted read is tried again.
     pub(crate) fn read(&mut self, into: &mut [u8]) -> io::Result<usize>
         ensures { IfOk result (λ count. count ≤ length into.new) }
     {
@@ -79,7 +79,7 @@ impl OpenFile {
         Err(io::Error::from(io::ErrorKind::Interrupted))
     }
 
-    // Writes the whole piece. An interrupted write is tried again, by std.
+    // Writes the whole piece. The standard library tries an interrupted write again.
     pub(crate) fn write(&mut self, piece: &[u8]) -> io::Result<()> {
         self.file.write_all(piece)
     }

@@ -2,22 +2,22 @@ ghost use Rattle.std.specs.Prelude.{◌≡◌, ◌≤◌, length, IfOk};
 ghost use Rattle.shelf_io.specs.View.{unknown_shelf};
 
 use crate::failed::Failed;
-use crate::faults::noted;
+use crate::faults::count_error;
 use crate::open_file::OpenFile;
 use crate::shelf::Shelf;
 use std::fs::File;
 use std::io;
 use std::rt::Files;
 
-/// The files of the system, by their paths. It makes no contents known.
+/// The files of the system, by their paths. Contracts know nothing of their contents.
 ///
-/// It has one count of failed reads and one of failed writes, the same for every name, and each
-/// error of the system is a failure, but an interrupted read or write is tried again.
+/// It has one count of failed reads and one of failed writes, the same for every name. Each error
+/// of the system is a failure, except that an interrupted read or write is tried again.
 ///
 /// The file that is read stays open, and a read of the same name at the offset where the last one
-/// ended goes on in it: so a file that another program replaces meanwhile is read whole, the old
-/// one or the new one, and a pipe can be read. A read at offset 0 opens the name anew. The file
-/// that is created or appended to stays open, too.
+/// ended continues in it. So a file that another program replaces meanwhile is read whole, either
+/// the old one or the new one, and a pipe can be read. A read at offset 0 opens the name anew. The
+/// file that is created or appended to stays open, too.
 #[derive(Drop)]
 pub struct RealShelf<R> {
     rt: R,
@@ -42,7 +42,7 @@ impl<R: Files<File = File> + Drop> RealShelf<R> {
     }
 }
 
-// Reads from the offset on, in the open file where it goes on there.
+// Reads from the offset on, in the open file where that is at this offset.
 fn read<R: Files<File = File>>(
     rt: &R,
     reading: &mut Option<OpenFile>,
@@ -71,7 +71,7 @@ fn create<R: Files<File = File>>(
     Ok(())
 }
 
-// Writes at the end of the file, in the open one where it has this name.
+// Writes at the end of the file, in the open file where that has this name.
 fn append<R: Files<File = File>>(
     rt: &R,
     writing: &mut Option<OpenFile>,
@@ -96,7 +96,7 @@ impl<R: Files<File = File> + Drop> Shelf for RealShelf<R> {
 
     fn read_at(&mut self, name: &str, offset: u64, into: &mut [u8]) -> Result<usize, Failed> {
         let done = read(&self.rt, &mut self.reading, name, offset, into);
-        noted(done, &mut self.read_faults)
+        count_error(done, &mut self.read_faults)
     }
 
     fn write_faults(&self, _name: &str) -> u64 {
@@ -105,11 +105,11 @@ impl<R: Files<File = File> + Drop> Shelf for RealShelf<R> {
 
     fn create(&mut self, name: &str) -> Result<(), Failed> {
         let done = create(&self.rt, &mut self.writing, name);
-        noted(done, &mut self.write_faults)
+        count_error(done, &mut self.write_faults)
     }
 
     fn append(&mut self, name: &str, piece: &[u8]) -> Result<(), Failed> {
         let done = append(&self.rt, &mut self.writing, name, piece);
-        noted(done, &mut self.write_faults)
+        count_error(done, &mut self.write_faults)
     }
 }

@@ -4,15 +4,15 @@ ghost use Rattle.shelf_io.specs.Taking.{Puts};
 ghost use Rattle.shelf_io.specs.View.{unknown_sink};
 
 use crate::failed::Failed;
-use crate::faults::noted;
+use crate::faults::count_error;
 use crate::sink::Sink;
 use std::io;
 use std::io::Write;
 
-/// A sink that hands each piece on to a writer, as standard output.
+/// A sink that passes each piece on to a writer, for example to standard output.
 ///
-/// Each error of the writer is a failure. As a sink it makes no bytes known; what is known of the
-/// bytes that its writer holds is a clause of its own.
+/// Each error of the writer is a failure. Its view as a sink says nothing of the bytes; the clause
+/// `written` of `put` says what it adds to those of the writer.
 #[derive(Drop)]
 pub struct RealSink<W> {
     writer: W,
@@ -49,6 +49,6 @@ impl<W: Write + Drop> Sink for RealSink<W> {
         ensures written { OnOk result
             (Appends (W.contents self.old.writer) (W.contents self.new.writer) piece.now) }
     {
-        noted(write(&mut self.writer, piece), &mut self.faults)
+        count_error(write(&mut self.writer, piece), &mut self.faults)
     }
 }

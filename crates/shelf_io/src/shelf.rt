@@ -1,6 +1,6 @@
 ghost use Rattle.std.specs.Prelude.{◌≡◌, ◌≤◌, ◌+◌, ℕ, List, length, IsSome, IfOk, IsOk, IsTrue, is_err};
 ghost use Rattle.std.specs.Option.{ForSome};
-ghost use Rattle.shelf_io.specs.Changes.{HandsOut, OnlyReads, OnlyWrites, given};
+ghost use Rattle.shelf_io.specs.Changes.{HandsOut, OnlyReads, OnlyWrites, bytes_given};
 ghost use Rattle.shelf_io.specs.Contents.{Adds, Creates};
 ghost use Rattle.shelf_io.specs.Counts.{CountsFailure};
 ghost use Rattle.shelf_io.specs.Reading.{Reads};
@@ -8,36 +8,36 @@ ghost use Rattle.shelf_io.specs.View.{ShelfView};
 
 use crate::failed::Failed;
 
-/// A place that holds files by name.
+/// A store of files by name.
 ///
-/// Each call counts its failures under the name that it is given, reads and writes separately. A
-/// count never falls, and stays at `u64::MAX` once it is there.
+/// Each call counts its failures under the name that it is called with, reads and writes
+/// separately. A count never falls, and stays at `u64::MAX` once it has reached it.
 pub trait Shelf {
     // all that is known of the shelf
     ghost view: { Self → ShelfView };
 
-    /// How many reads of this name failed so far.
+    /// How many reads of this name have failed so far.
     fn read_faults(&self, name: &str) -> u64
         ensures { result ≡ (view self.now).read_faults name.now };
 
-    /// Copies bytes of the file from `offset` on to the beginning of `into`, and answers how many.
+    /// Copies bytes of the file from `offset` on to the beginning of `into`, and returns how many.
     ///
-    /// It may answer fewer than fit, but 0 only at or past the end of the file, or where `into` is
+    /// It may return fewer than fit, but 0 only at or past the end of the file, or where `into` is
     /// empty. It fails with `Failed` where the name is not held, or where the reading itself fails.
     fn read_at(&mut self, name: &str, offset: u64, into: &mut [u8]) -> Result<usize, Failed>
         ensures most { IfOk result (λ count. count ≤ length into.new) }
         ensures bytes { Reads (view self.old).contents name.now offset result into.new }
         ensures only { OnlyReads (λ n. n ≡ name.now) (view self.old) (view self.new) }
-        ensures handed { HandsOut name.now (given result) (view self.old) (view self.new) }
+        ensures handed { HandsOut name.now (bytes_given result) (view self.old) (view self.new) }
         ensures counted { CountsFailure (is_err result)
             ((view self.old).read_faults name.now) ((view self.new).read_faults name.now) }
         ensures promised { IsTrue ((view self.old).reads_promised name.now) → IsOk result };
 
-    /// How many writes of this name failed so far.
+    /// How many writes of this name have failed so far.
     fn write_faults(&self, name: &str) -> u64
         ensures { result ≡ (view self.now).write_faults name.now };
 
-    /// Makes the name hold no bytes, whether it was held or not.
+    /// Creates the file of this name with no bytes, or empties it where the name is held.
     fn create(&mut self, name: &str) -> Result<(), Failed>
         requires some { 1 ≤ length name.now }
         requires short { length name.now ≤ 255 }
@@ -50,8 +50,8 @@ pub trait Shelf {
         ensures promised { (bytes : ℕ) →
             IsTrue ((view self.old).writes_promised name.now bytes) → IsOk result };
 
-    /// Adds the piece to the bytes of a name that is held. After a failure, `Failed`, a prefix of
-    /// it was added.
+    /// Appends the piece to the bytes of a name that is held. After a failure, `Failed`, a prefix
+    /// of it has been appended.
     fn append(&mut self, name: &str, piece: &[u8]) -> Result<(), Failed>
         requires { ForSome (view self.old).contents (λ c. IsSome (c.file name.now)) }
 

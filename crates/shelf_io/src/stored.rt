@@ -8,8 +8,8 @@ ghost use Rattle.shelf_io.specs.Held.{with_bytes, with_failed_read, with_failed_
 use std::alloc::{AllocError, Global};
 use std::marker::Model;
 
-// A file of a shelf in memory, with its counts of failures and of the bytes that reads gave. The
-// memory that it may grow into is taken in advance.
+// A file of a shelf in memory, with its counts of failures and of the bytes that reads returned.
+// The memory that it may grow into is reserved in advance.
 #[derive(Debug, Drop)]
 pub(crate) struct Stored {
     name: String,
@@ -65,7 +65,7 @@ impl Stored {
         Ok(file)
     }
 
-    // A file with no bytes in this buffer, which has room for so many.
+    // A file with no bytes, in this empty buffer with room for `reserved` bytes.
     pub(crate) fn empty(
         name: String,
         bytes: Vec<u8>,
@@ -106,8 +106,8 @@ impl Stored {
         self.bytes.as_slice()
     }
 
-    // Puts other bytes into the file, with room for `room` more. Where memory runs out, it is as
-    // before.
+    // Replaces the bytes of the file, with room for `room` more. Where memory runs out, the file is
+    // as before.
     pub(crate) fn put(&mut self, alloc: Global, bytes: &[u8], room: usize) -> Result<(), AllocError>
         ensures ok { OnOk result (self.new ≡ with_bytes bytes.now room self.old) }
         ensures err { OnErr result (self.new ≡ self.old) }
@@ -144,7 +144,7 @@ impl Stored {
         self.reads = self.reads.saturating_add(1);
     }
 
-    // Counts bytes that a read gave.
+    // Counts bytes that a read returned.
     pub(crate) fn hand_out(&mut self, count: usize)
         ensures { self.new ≡ with_handed count self.old }
     {
@@ -157,7 +157,7 @@ impl Stored {
         self.writes = self.writes.saturating_add(1);
     }
 
-    // Takes all bytes off, and keeps their memory.
+    // Removes all bytes, and keeps their memory.
     pub(crate) fn clear(&mut self)
         ensures { self.new ≡ without_bytes self.old }
     {

@@ -10,13 +10,13 @@ use thiserror::Error;
 // How many bytes one read asks for at most.
 const READ_SIZE: usize = 4096;
 
-/// Why a file was not read whole.
+/// Why a file could not be read whole.
 #[derive(Debug, Drop, Error)]
 pub enum TakeFault {
     /// A read of the name failed.
     #[error("the file cannot be read")]
     Fault,
-    /// More bytes came than the limit allows.
+    /// The file has more bytes than the limit allows.
     #[error("the file is too long")]
     TooLong,
     /// Memory ran out.
@@ -26,8 +26,8 @@ pub enum TakeFault {
 
 /// Reads the file under `name` whole, if it has at most `limit` bytes.
 ///
-/// `Fault` comes where a read failed, `TooLong` where more than `limit` bytes came, and `Memory`
-/// where memory ran out.
+/// The error is `Fault` where a read failed, `TooLong` where more than `limit` bytes were read, and
+/// `Memory` where memory ran out.
 pub fn take_file<H: Shelf>(
     alloc: Global,
     shelf: &mut H,
@@ -36,7 +36,7 @@ pub fn take_file<H: Shelf>(
 ) -> Result<Vec<u8>, TakeFault>
     ensures whole { IfOk result (λ bytes. IfSome (H.view shelf.old).contents
         (λ c. c.file name.now ≡ Some bytes.items)) }
-    ensures within { IfOk result (λ bytes. vec_len bytes ≤ limit) }
+    ensures bound { IfOk result (λ bytes. vec_len bytes ≤ limit) }
     ensures too_long { IsErrOf result TakeFault.TooLong → IfSome (H.view shelf.old).contents
         (λ c. IsSomeAnd (c.file name.now) (λ bytes. limit < length bytes)) }
 

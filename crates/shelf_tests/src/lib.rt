@@ -1,5 +1,5 @@
 //! Tests of files and output through their public calls, in memory and over the real system. They
-//! stand in a crate above, since a crate with tests is proved twice.
+//! are in a crate of their own, since a crate with tests is proved twice.
 #![tactic(auto)]
 
 #[cfg(test)]

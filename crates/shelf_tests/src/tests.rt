@@ -4,7 +4,7 @@ use std::os::fd::AsRawFd;
 use std::test::Fail;
 use std::{fs, io, mem};
 
-// What `take_file` answers, as a word.
+// The result of `take_file`, as a word.
 fn word(answer: &Result<Vec<u8>, TakeFault>) -> &'static str {
     match answer {
         Ok(_) => "whole",
@@ -58,7 +58,7 @@ fn takes_pieces(rt: HostRuntime) -> Result<(), Fail> {
     Ok(())
 }
 
-// The faults of reads and of writes of the name.
+// The counts of failed reads and of failed writes of the name.
 fn faults(shelf: &impl Shelf, name: &str) -> (u64, u64) {
     (shelf.read_faults(name), shelf.write_faults(name))
 }
@@ -155,7 +155,7 @@ fn reads_a_replaced_file_whole(rt: HostRuntime) -> Result<(), Fail> {
     assert_eq!(rt; shelf.read_at(name, 6, &mut buffer), Ok(0));
     let bytes = take_file(rt.alloc(), &mut shelf, name, 7)?;
     assert_eq!(rt; bytes.as_slice(), b"newnew!".as_slice());
-    // another offset than that where the open file stands
+    // an offset other than that of the open file
     assert_eq!(rt; shelf.read_at(name, 4, &mut buffer), Ok(3));
     assert_eq!(rt; buffer.as_slice(), b"ew!".as_slice());
     Ok(())

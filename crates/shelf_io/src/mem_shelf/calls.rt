@@ -1,12 +1,12 @@
 ghost use Rattle.std.specs.Prelude.{◌≡◌, ◌≤◌, ◌+◌, ℕ, List, Some, length, IfOk, IsOk, IsSome, IsTrue, is_err};
 ghost use Rattle.std.specs.Option.{ForSome};
-ghost use Rattle.shelf_io.specs.Changes.{HandsOut, OnlyReads, OnlyWrites, given};
+ghost use Rattle.shelf_io.specs.Changes.{HandsOut, OnlyReads, OnlyWrites, bytes_given};
 ghost use Rattle.shelf_io.specs.Contents.{Adds, Creates};
 ghost use Rattle.shelf_io.specs.Counts.{CountsFailure};
 ghost use Rattle.shelf_io.specs.MemShelf.{append_after, append_fails, create_after, create_fails, promises_reads, promises_writes, read_after, read_fails, read_size, shelf_contents, shelf_reads, shelf_view, shelf_writes};
 ghost use Rattle.shelf_io.specs.Reading.{Reads};
 
-use super::{MemShelf, place_of};
+use super::{MemShelf, index_of};
 use crate::failed::Failed;
 use crate::shelf::Shelf;
 
@@ -14,7 +14,7 @@ impl Shelf for MemShelf {
     ghost view = { shelf_view };
 
     fn read_faults(&self, name: &str) -> u64 {
-        match place_of(&self.files, name) {
+        match index_of(&self.files, name) {
             Some(at) => self.files[at].reads(),
             None => self.shared_reads,
         }
@@ -29,7 +29,7 @@ impl Shelf for MemShelf {
         ensures most { IfOk result (λ count. count ≤ length into.new) }
         ensures bytes { Reads (Some (shelf_contents self.old)) name.now offset result into.new }
         ensures only { OnlyReads (λ n. n ≡ name.now) (shelf_view self.old) (shelf_view self.new) }
-        ensures handed { HandsOut name.now (given result)
+        ensures handed { HandsOut name.now (bytes_given result)
             (shelf_view self.old) (shelf_view self.new) }
         ensures counted { CountsFailure (is_err result)
             (shelf_reads self.old name.now) (shelf_reads self.new name.now) }
@@ -39,7 +39,7 @@ impl Shelf for MemShelf {
     }
 
     fn write_faults(&self, name: &str) -> u64 {
-        match place_of(&self.files, name) {
+        match index_of(&self.files, name) {
             Some(at) => self.files[at].writes(),
             None => self.shared_writes,
         }

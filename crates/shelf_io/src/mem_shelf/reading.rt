@@ -2,7 +2,7 @@ ghost use Rattle.std.specs.Prelude.{◌≡◌, ◌≤◌, Some, length, take, dr
 ghost use Rattle.shelf_io.specs.MemShelf.{read_after, read_fails, read_size, shelf_contents};
 ghost use Rattle.shelf_io.specs.Reading.{Reads};
 
-use super::{MemShelf, place_of};
+use super::{MemShelf, index_of};
 use crate::calls::is_scheduled;
 use crate::failed::Failed;
 
@@ -18,7 +18,7 @@ impl MemShelf {
         let scheduled = is_scheduled(&self.failing, self.calls);
         let most = self.most;
         self.calls = self.calls.saturating_add(1);
-        match place_of(&self.files, name) {
+        match index_of(&self.files, name) {
             Some(at) => {
                 let file = &mut self.files[at];
                 if scheduled {
@@ -37,8 +37,8 @@ impl MemShelf {
     }
 }
 
-// Copies bytes from the offset on to the beginning of `into`, at most so many, and answers how
-// many.
+// Copies at most `most` bytes from the offset on to the beginning of `into`, and returns how many
+// it copied.
 fn copy(bytes: &[u8], offset: u64, most: usize, into: &mut [u8]) -> usize
     ensures size { result ≡ min most (min (length into.new) (length bytes.now - offset)) }
     ensures bytes { take result into.new ≡ take result (drop offset bytes.now) }

@@ -1,7 +1,7 @@
 ghost use Rattle.std.specs.Prelude.{◌≡◌, ◌≤◌, length, IsSome, is_err};
 ghost use Rattle.shelf_io.specs.MemShelf.{append_after, append_fails, create_after, create_fails, shelf_contents};
 
-use super::{MemShelf, place_of};
+use super::{MemShelf, index_of};
 use crate::calls::{fitting, is_scheduled};
 use crate::failed::Failed;
 
@@ -14,7 +14,7 @@ impl MemShelf {
     {
         let scheduled = is_scheduled(&self.failing, self.calls);
         self.calls = self.calls.saturating_add(1);
-        match place_of(&self.files, name) {
+        match index_of(&self.files, name) {
             Some(at) => {
                 let file = &mut self.files[at];
                 if scheduled {
@@ -29,8 +29,8 @@ impl MemShelf {
                     self.shared_writes = self.shared_writes.saturating_add(1);
                     return Err(Failed);
                 }
-                let place = self.spare.pop().unwrap();
-                let file = place.hold(name, self.room, self.shared_reads, self.shared_writes);
+                let slot = self.spare.pop().unwrap();
+                let file = slot.hold(name, self.room, self.shared_reads, self.shared_writes);
                 self.files.push(file).unwrap();
                 Ok(())
             }
@@ -47,7 +47,7 @@ impl MemShelf {
         let refused = scheduled || self.room < piece.len();
         let size = fitting(scheduled, self.room, piece.len());
         self.calls = self.calls.saturating_add(1);
-        let at = place_of(&self.files, name).unwrap();
+        let at = index_of(&self.files, name).unwrap();
         let file = &mut self.files[at];
         file.append(&piece[..size], refused);
         self.room -= size;

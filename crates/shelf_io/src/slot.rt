@@ -4,15 +4,15 @@ use crate::stored::Stored;
 use std::alloc::{AllocError, Global};
 use std::marker::Model;
 
-// The memory for a file that is not there yet: its name of up to 255 bytes, and its bytes.
+// Memory that is reserved for a new file: for its name of up to 255 bytes, and for its bytes.
 #[derive(Debug, Drop)]
-pub(crate) struct Place {
+pub(crate) struct Slot {
     name: String,
     bytes: Vec<u8>,
     reserved: usize,
 }
 
-impl Model for Place {
+impl Model for Slot {
     ghost use Rattle.std.specs.Prelude.{◌≡◌, ◌≤◌, ℕ, []};
     ghost use Rattle.std.specs.String.{string_bytes, string_capacity};
     ghost use Rattle.std.specs.Vec.{vec_capacity};
@@ -26,19 +26,19 @@ impl Model for Place {
         × (p.bytes.items ≡ []) × (p.reserved ≤ vec_capacity p.bytes) };
 }
 
-impl Place {
-    // A place for a file of up to so many bytes.
-    pub(crate) fn reserve(alloc: Global, room: usize) -> Result<Place, AllocError>
-        ensures { IfOk result (λ place. place ≡ room) }
+impl Slot {
+    // A slot for a file of up to `room` bytes.
+    pub(crate) fn reserve(alloc: Global, room: usize) -> Result<Slot, AllocError>
+        ensures { IfOk result (λ slot. slot ≡ room) }
     {
-        Ok(Place {
+        Ok(Slot {
             name: String::with_capacity(alloc, 255)?,
             bytes: Vec::with_capacity(alloc, room)?,
             reserved: room,
         })
     }
 
-    // The file of this name, with no bytes and these counts, in the memory of the place.
+    // Makes the slot a file with this name, no bytes and these counts, in the memory of the slot.
     pub(crate) fn hold(mut self, name: &str, room: usize, reads: u64, writes: u64) -> Stored
         requires short { length name.now ≤ 255 }
         requires room { room ≤ self }

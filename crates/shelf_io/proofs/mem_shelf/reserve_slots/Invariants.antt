@@ -1,9 +1,9 @@
 use Rattle.std.proofs.Common.{◌≡◌, vec_len}
-use Rattle.shelf_io.specs.Held.{PlacesHaveRoom}
-use Rattle.shelf_io.proofs.mem_shelf.reserve_places.Given as goal
+use Rattle.shelf_io.specs.Held.{SlotsHaveRoom}
+use Rattle.shelf_io.proofs.mem_shelf.reserve_slots.Given as goal
 
 abbrev pub invariant-loop : goal.invariant-loop
 invariant-loop l = record {
   count : vec_len l.spare ≡ l.counter;
-  each : PlacesHaveRoom l.room l.spare.items;
+  each : SlotsHaveRoom l.room l.spare.items;
 }
