@@ -36,7 +36,7 @@ fn bracket<S: Scale>(low: u64) -> Iv<S>
 }
 
 /// `a` times a cosine plus `b` times a sine: the part of the point (a, b) along a direction.
-pub(crate) fn turned<S: Scale>(a: Iv<S>, cos: u64, b: Iv<S>, sin: u64) -> Iv<S>
+pub(crate) fn projection<S: Scale>(a: Iv<S>, cos: u64, b: Iv<S>, sin: u64) -> Iv<S>
     requires a { MagnitudeUpTo (1000 * S.unit) a }
     requires b { MagnitudeUpTo (1000 * S.unit) b }
     requires cos { cos < 10 ^ 12 }

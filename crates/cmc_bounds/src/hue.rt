@@ -5,7 +5,7 @@ ghost use Rattle.interval_specs.specs.Operations.{difference_of};
 ghost use Rattle.cmc_specs.specs.Cmc.{along_12, along_35, cosine_magnitude, first_form, hue_factor, hue_sum_15, hue_sum_16, hue_weight, is_inside, is_outside, second_form};
 ghost use Rattle.cmc_bounds.specs.Chroma.{IsChroma};
 
-use crate::angles::{COS_12, COS_15, COS_16, SIN_12, SIN_15, SIN_16, along_35, turned};
+use crate::angles::{COS_12, COS_15, COS_16, SIN_12, SIN_15, SIN_16, along_35, projection};
 use fix_bounds::{Iv, Scale};
 
 /// The magnitude of a cosine, from its product with the chroma: the interval from 0 to 1 where the
@@ -44,7 +44,7 @@ fn second_form<S: Scale>(a: Iv<S>, b: Iv<S>, c1: Iv<S>) -> Iv<S>
     ensures is { result ≡ second_form S.unit a b c1 }
     ensures range { UpTo S.unit result }
 {
-    let magnitude = cosine_magnitude(turned(a, COS_12, b, SIN_12), c1);
+    let magnitude = cosine_magnitude(projection(a, COS_12, b, SIN_12), c1);
     let least: Iv<S> = Iv::of_ratio(56, 100);
     least.add(magnitude.ratio_up(2, 10))
 }
@@ -72,8 +72,8 @@ pub(crate) fn hue_factor<S: Scale>(a: Iv<S>, b: Iv<S>, c1: Iv<S>) -> Iv<S>
     ensures range { UpTo S.unit result }
     ensures least { AtLeast 35 100 S.unit result }
 {
-    let p = turned(a, SIN_15, b, COS_15);
-    let r = turned(a, SIN_16, b, COS_16);
+    let p = projection(a, SIN_15, b, COS_15);
+    let r = projection(a, SIN_16, b, COS_16);
     if is_outside(p, r) {
         first_form(a, b, c1)
     } else if is_inside(p, r) {

@@ -137,10 +137,10 @@ hue_weight_up_to n sc f t some u v w =
 pub part_magnitude : (n : ℕ) (a c : Ends) → 0 < n → MagnitudeUpTo (1000 * n) a → UpTo n c → MagnitudeUpTo (1000 * n) (product_at n a c)
 part_magnitude n a c some s u = product_magnitude n (1000 * n) (1000 * n) n a c some (omega arith) s (magnitude_of_up_to n c u)
 
-pub turned_magnitude : (n : ℕ) (a c b s : Ends) → 0 < n → MagnitudeUpTo (1000 * n) a → UpTo n c → MagnitudeUpTo (1000 * n) b → UpTo n s → MagnitudeUpTo (2000 * n) (sum_of (product_at n a c) (product_at n b s))
-turned_magnitude n a c b s some p u q v =
+pub projection_magnitude : (n : ℕ) (a c b s : Ends) → 0 < n → MagnitudeUpTo (1000 * n) a → UpTo n c → MagnitudeUpTo (1000 * n) b → UpTo n s → MagnitudeUpTo (2000 * n) (sum_of (product_at n a c) (product_at n b s))
+projection_magnitude n a c b s some p u q v =
     magnitude_wider (1000 * n + 1000 * n) (2000 * n) _ (omega arith) (sum_magnitude (1000 * n) (1000 * n) (product_at n a c) (product_at n b s) (part_magnitude n a c some p u) (part_magnitude n b s some q v))
 
-pub turned_back_magnitude : (n : ℕ) (a c b s : Ends) → 0 < n → MagnitudeUpTo (1000 * n) a → UpTo n c → MagnitudeUpTo (1000 * n) b → UpTo n s → MagnitudeUpTo (2000 * n) (difference_of (product_at n a c) (product_at n b s))
-turned_back_magnitude n a c b s some p u q v =
+pub projection_difference_magnitude : (n : ℕ) (a c b s : Ends) → 0 < n → MagnitudeUpTo (1000 * n) a → UpTo n c → MagnitudeUpTo (1000 * n) b → UpTo n s → MagnitudeUpTo (2000 * n) (difference_of (product_at n a c) (product_at n b s))
+projection_difference_magnitude n a c b s some p u q v =
     magnitude_wider (1000 * n + 1000 * n) (2000 * n) _ (omega arith) (difference_magnitude (1000 * n) (1000 * n) (product_at n a c) (product_at n b s) (part_magnitude n a c some p u) (part_magnitude n b s some q v))

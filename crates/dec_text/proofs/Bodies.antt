@@ -1,4 +1,4 @@
--- A body of digits, a point and digits, or of digits alone: its parts, and the number that it writes.
+-- A body of digits, a point and digits, or only of digits: its parts, and the number that it writes.
 use Rattle.std.proofs.Common.{◌≡◌, ℕ, suc, ◌+◌, ◌-◌, ◌*◌, ◌^◌, ◌<◌, ◌≤◌, List, [], ◌∷◌, ◌++◌, length, take, drop, Bool, true, false, cond, not, Option, Some, None, Result, Ok, nat_lt, refl, sym, ap, ◌∙◌, subst, arith, unwrap_or, ℤ, Err, if◌then◌else◌}
 use Rattle.std.proofs.Math.Seq.{take-append_seam, take-length, drop-length}
 use Rattle.std.proofs.Math.ListN.{drop_of_length-le}
@@ -27,17 +27,17 @@ at_most k n h f = grind (arith, nat_tests)
 point_is : (body : List ℕ) → point_of body ≡ position_or_len (λ b. b == 46) body
 point_is body = unwrapped (nat_lt (position_or_len (λ b. b == 46) body) (length body)) _ _ (at_most _ _ (prefix_len-le-length (λ b. not (b == 46)) body))
 
-point_behind : (ds rest : List ℕ) → IsDigits ds → position_or_len (λ b. b == 46) (ds ++ 46 ∷ rest) ≡ length ds
-point_behind [] rest h = refl
-point_behind (c ∷ cs) rest h = let e = point_behind cs rest h.1 in rw (not_point c h.0) (omega arith)
+point_after : (ds rest : List ℕ) → IsDigits ds → position_or_len (λ b. b == 46) (ds ++ 46 ∷ rest) ≡ length ds
+point_after [] rest h = refl
+point_after (c ∷ cs) rest h = let e = point_after cs rest h.1 in rw (not_point c h.0) (omega arith)
 
 no_point : (ds : List ℕ) → IsDigits ds → position_or_len (λ b. b == 46) ds ≡ length ds
 no_point [] h = refl
 no_point (c ∷ cs) h = let e = no_point cs h.1 in rw (not_point c h.0) (omega arith)
 
-drop_behind : (ds rest : List ℕ) → drop (length ds + 1) (ds ++ 46 ∷ rest) ≡ rest
-drop_behind [] rest = refl
-drop_behind (c ∷ cs) rest = let e : suc (length cs) + 1 ≡ suc (length cs + 1) = omega arith in rw e (drop_behind cs rest)
+drop_point : (ds rest : List ℕ) → drop (length ds + 1) (ds ++ 46 ∷ rest) ≡ rest
+drop_point [] rest = refl
+drop_point (c ∷ cs) rest = let e : suc (length cs) + 1 ≡ suc (length cs + 1) = omega arith in rw e (drop_point cs rest)
 
 -- the parts of a body
 pub record Parts (body ds rest : List ℕ) : Type 0 where
@@ -53,11 +53,11 @@ not_blank (c ∷ (d ∷ ds)) rest h some = refl
 
 pub with_point : (ds rest : List ℕ) → IsDigits ds → 0 < length ds → Parts (ds ++ 46 ∷ rest) ds rest
 with_point ds rest h some =
-    let p = point_is (ds ++ 46 ∷ rest) ∙ point_behind ds rest h in
+    let p = point_is (ds ++ 46 ∷ rest) ∙ point_after ds rest h in
     record {
       blank = not_blank ds (46 ∷ rest) h some;
       whole = ap (λ k. take k (ds ++ 46 ∷ rest)) p ∙ take-append_seam ds (46 ∷ rest);
-      fraction = ap (λ k. drop (k + 1) (ds ++ 46 ∷ rest)) p ∙ drop_behind ds rest;
+      fraction = ap (λ k. drop (k + 1) (ds ++ 46 ∷ rest)) p ∙ drop_point ds rest;
     }
 
 pub without_point : (ds : List ℕ) → IsDigits ds → 0 < length ds → Parts (ds ++ []) ds []
@@ -70,7 +70,7 @@ without_point ds h some =
     } in
     subst (λ b. Parts b ds []) (sym (append-nil ds)) alone
 
--- digits hold no stray byte
+-- digits have no stray byte among them
 all_pass : (ds : List ℕ) → IsDigits ds → position_or_len (λ b. not (is_digit b)) ds ≡ length ds
 all_pass [] h = refl
 all_pass (c ∷ cs) h = let e = all_pass cs h.1 in rw h.0 (omega arith)
@@ -81,15 +81,15 @@ not_less k n e = grind (arith, nat_tests)
 pub no_stray : (start : ℕ) (ds : List ℕ) → IsDigits ds → stray_from start ds ≡ None
 no_stray start ds h = rw (not_less (position_or_len (λ b. not (is_digit b)) ds) (length ds) (all_pass ds h)) refl
 
--- a choice that comes to its last case
+-- a choice whose last case applies
 all_well : (b c : Bool) (s n : ℕ) (minus : Bool) → b ≡ false → c ≡ false → s ≡ n → (if b then Err TooManyPlaces else (if c then Err TooLarge else Ok (signed minus s))) ≡ Ok (signed minus n)
 all_well b c s n minus e f g = rw (e, f, g) refl
 
 none_astray : (b : Bool) (o : Option ℕ) (x y : Result ℤ DecFault) → b ≡ false → o ≡ None → x ≡ y → (if b then Err Empty else unless_stray o x) ≡ y
 none_astray b o x y e f g = rw (e, f) g
 
-within : (n : ℕ) → n ≤ largest → nat_lt largest n ≡ false
-within n h = grind (arith, nat_tests)
+below_largest : (n : ℕ) → n ≤ largest → nat_lt largest n ≡ false
+below_largest n h = grind (arith, nat_tests)
 
 -- the number that the parts write
 pub parts_number : (decimals n : ℕ) (minus : Bool) (ds rest : List ℕ) → length rest ≡ decimals → digits_from (digits_from 0 ds) rest ≡ n → n ≤ largest → number_of decimals minus ds rest ≡ Ok (signed minus n)
@@ -101,12 +101,12 @@ parts_number decimals n minus ds rest l v small =
     let one : digits_from (digits_from 0 ds) rest * 1 ≡ digits_from (digits_from 0 ds) rest = omega arith in
     let magnitude = (λ i. digits_from (digits_from 0 ds) (written i) * 10 ^ none i) ∙ one ∙ v in
     all_well (has_more decimals rest) (nat_lt largest (magnitude_of decimals ds rest)) (magnitude_of decimals ds rest) n minus
-    (ap (list_any (λ d. not (d == 48))) left) (ap (nat_lt largest) magnitude ∙ within n small) magnitude
+    (ap (list_any (λ d. not (d == 48))) left) (ap (nat_lt largest) magnitude ∙ below_largest n small) magnitude
 
 pub body_number : (decimals n sign : ℕ) (minus : Bool) (body ds rest : List ℕ) → Parts body ds rest → IsDigits ds → IsDigits rest → number_of decimals minus ds rest ≡ Ok (signed minus n) → body_value decimals minus sign body ≡ Ok (signed minus n)
 unfolding body_value
 body_number decimals n sign minus body ds rest p d r v =
     let before = ap (stray_from sign) p.whole ∙ no_stray sign ds d in
-    let behind = ap (stray_from (sign + point_of body + 1)) p.fraction ∙ no_stray (sign + point_of body + 1) rest r in
+    let after = ap (stray_from (sign + point_of body + 1)) p.fraction ∙ no_stray (sign + point_of body + 1) rest r in
     none_astray (is_blank body) (option_or (stray_from sign (whole_of body)) (stray_from (sign + point_of body + 1) (fraction_of body))) (number_of decimals minus (whole_of body) (fraction_of body)) (Ok (signed minus n))
-    p.blank (λ i. option_or (before i) (behind i)) ((λ i. number_of decimals minus (p.whole i) (p.fraction i)) ∙ v)
+    p.blank (λ i. option_or (before i) (after i)) ((λ i. number_of decimals minus (p.whole i) (p.fraction i)) ∙ v)

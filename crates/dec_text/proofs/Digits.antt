@@ -40,7 +40,7 @@ unfolding last_digits
 length-last_digits zero n = refl
 length-last_digits (suc k) n = ap suc (length-last_digits k n)
 
--- the last digits, behind the others, write the whole number
+-- the last digits after the others write the whole number
 pub last_digits_number : (k n : ℕ) → digits_from (n / 10 ^ k) (last_digits k n) ≡ n
 unfolding last_digits
 last_digits_number zero n = div-one n

@@ -5,7 +5,7 @@ use Rattle.std.proofs.lemmas.Bool.{cases_lt}
 use Rattle.std.proofs.lemmas.List.{take_min}
 use Rattle.dec_text.specs.Decimal.{digits_from, magnitude_of}
 
--- what is the same below the cap stays so as digits follow
+-- two numbers that are equal up to the cap stay so when the same digits follow
 pub capped-digits_from : (most m n : ℕ) (ds : List ℕ) → min most m ≡ min most n → min most (digits_from m ds) ≡ min most (digits_from n ds)
 capped-digits_from most m n [] e = e
 capped-digits_from most m n (d ∷ ds) e = capped-digits_from most (10 * m + (d - 48)) (10 * n + (d - 48)) ds (omega arith)
@@ -17,11 +17,11 @@ digits_from-drop n i s h = rw (add-one, drop-cons s i 0) refl
 pub capped_step : (most number next i : ℕ) (s : List ℕ) → i < length s → min most next ≡ min most (10 * number + (get_or s i 0 - 48)) → min most (digits_from next (drop (i + 1) s)) ≡ min most (digits_from number (drop i s))
 capped_step most number next i s h e = capped-digits_from most next (10 * number + (get_or s i 0 - 48)) (drop (i + 1) s) e ∙ sym (ap (min most) (digits_from-drop number i s h))
 
--- a number that is at least the cap, times some
+-- a number that is at least the cap is so when multiplied by a positive number
 grown : (most b q : ℕ) → most ≤ b → 0 < q → most ≤ b * q
 grown most b q h some = grind arith
 
--- a product of what was capped
+-- the product of a capped number, capped, is that of the number
 pub capped_product : (most a b q : ℕ) → a ≡ min most b → 0 < q → min (a * q) most ≡ min most (b * q)
 capped_product most a b q e some = ⊎_elim
     (λ under. let x : a ≡ b = omega arith in let y : a * q ≡ b * q = ap (λ t. t * q) x in omega arith)

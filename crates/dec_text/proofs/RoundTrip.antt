@@ -8,11 +8,11 @@ use Rattle.dec_text.specs.RoundTrip.{ReadsBack}
 use Rattle.dec_text.proofs.Digits.{IsDigits, decimal_digits, decimal_number, last_digits_digits, length-last_digits, last_digits_number}
 use Rattle.dec_text.proofs.Bodies.{with_point, without_point, parts_number, body_number}
 
--- a part of a number that is read fits the digits' lemmas
+-- a part of a number that can be read is small enough for the lemmas about digits
 fits : (n q : ℕ) → n ≤ largest → n / q < 2 ^ 64
 fits n q h = let d = div-le_self n q in omega arith
 
--- a magnitude, behind a sign or none
+-- the text of a magnitude after an optional sign is read back
 magnitude_reads : (decimals n sign : ℕ) (minus : Bool) → n ≤ largest → body_value decimals minus sign (unsigned_text decimals n) ≡ Ok (signed minus n)
 unfolding unsigned_text behind_point
 magnitude_reads zero n sign minus h =
@@ -28,7 +28,7 @@ magnitude_reads (suc k) n sign minus h =
     (parts_number (suc k) n minus (decimal whole) decimals (length-last_digits (suc k) n)
     (ap (λ t. digits_from t decimals) (decimal_number whole (fits n (10 ^ suc k) h)) ∙ last_digits_number (suc k) n) h)
 
--- digits are no sign
+-- a text that begins with a digit has no sign
 no_sign : (ds rest : List ℕ) → IsDigits ds → 0 < length ds → (sign_len (ds ++ rest) ≡ 0) × (is_minus (ds ++ rest) ≡ false)
 no_sign [] rest h some = absurd (omega arith)
 no_sign (c ∷ cs) rest h some = let d = h.0 in (grind (arith, nat_tests), grind (arith, nat_tests))

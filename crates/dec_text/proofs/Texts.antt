@@ -55,12 +55,12 @@ pub text_without : (decimals magnitude power : ℕ) (begin out : List ℕ) → d
 unfolding unsigned_text
 text_without decimals magnitude power begin out none p o = rw (o, p, behind_point_none decimals magnitude none) (ap (λ t. begin ++ t) (sym (append-nil (decimal (magnitude / 10 ^ decimals)))))
 
--- one digit more of those that are left
-pub digits_put : (behind count number power : ℕ) (begin mid out : List ℕ) → 0 < behind → power ≡ 10 ^ (behind - 1) → out ≡ mid ++ (48 + number / power % 10) ∷ [] → mid ++ last_digits behind number ≡ begin ++ last_digits count number → out ++ last_digits (behind - 1) number ≡ begin ++ last_digits count number
-digits_put behind count number power begin mid out some p o m =
-    let rest = last_digits (behind - 1) number in
-    rw (o, p) (append_assoc mid ((48 + number / 10 ^ (behind - 1) % 10) ∷ []) rest ∙ sym (ap (λ t. mid ++ t) (last_digits_step behind number some)) ∙ m)
+-- one more of the digits that are left
+pub digits_put : (left count number power : ℕ) (begin mid out : List ℕ) → 0 < left → power ≡ 10 ^ (left - 1) → out ≡ mid ++ (48 + number / power % 10) ∷ [] → mid ++ last_digits left number ≡ begin ++ last_digits count number → out ++ last_digits (left - 1) number ≡ begin ++ last_digits count number
+digits_put left count number power begin mid out some p o m =
+    let rest = last_digits (left - 1) number in
+    rw (o, p) (append_assoc mid ((48 + number / 10 ^ (left - 1) % 10) ∷ []) rest ∙ sym (ap (λ t. mid ++ t) (last_digits_step left number some)) ∙ m)
 
--- none is left
-pub digits_done : (behind count number : ℕ) (begin out : List ℕ) → behind ≤ 0 → out ++ last_digits behind number ≡ begin ++ last_digits count number → out ≡ begin ++ last_digits count number
-digits_done behind count number begin out none m = sym (append-nil out) ∙ sym (ap (λ t. out ++ t) (last_digits-zero behind number none)) ∙ m
+-- no digit is left
+pub digits_done : (left count number : ℕ) (begin out : List ℕ) → left ≤ 0 → out ++ last_digits left number ≡ begin ++ last_digits count number → out ≡ begin ++ last_digits count number
+digits_done left count number begin out none m = sym (append-nil out) ∙ sym (ap (λ t. out ++ t) (last_digits-zero left number none)) ∙ m

@@ -1,10 +1,10 @@
--- Printing and reading agree.
+-- What is printed is read back.
 use Rattle.std.specs.Prelude.{◌≡◌, ℕ, ℤ, ◌^◌, ◌<◌, ◌≤◌, Ok, Some, decimal, unsigned_abs}
 use Rattle.dec_text.specs.Decimal.{decimal_of, largest}
 use Rattle.dec_text.specs.FixedPoint.{fixed_text}
 use Rattle.dec_text.specs.Whole.{whole_number}
 
--- what is printed with some count of decimals is read back with as many as the same number, where its magnitude is one that is read
+-- a number that is printed and read with the same number of decimals is read back, if reading accepts its magnitude
 abbrev pub ReadsBack : Type 0
 ReadsBack = (decimals : ℕ) (number : ℤ) → unsigned_abs number ≤ largest → decimal_of decimals (fixed_text decimals number) ≡ Ok number
 

@@ -3,10 +3,10 @@
 ghost use Rattle.std.specs.Prelude.{◌≡◌, ◌+◌, ◌<◌, ◌≤◌, ◌^◌, ◌==◌, not, length, drop, position, IfSome};
 ghost use Rattle.dec_text.specs.Decimal.{sign_len, is_blank, point_of, is_digit, stray_from};
 
-/// How many bytes the sign has.
+/// How many bytes the sign has: 1, or 0 where there is none.
 pub(crate) fn sign_of(text: &[u8]) -> usize
     ensures is { result ≡ sign_len text.now }
-    ensures within { result ≤ length text.now }
+    ensures bound { result ≤ length text.now }
 {
     match text {
         [b'+' | b'-', ..] => 1,
@@ -14,6 +14,7 @@ pub(crate) fn sign_of(text: &[u8]) -> usize
     }
 }
 
+/// Whether nothing follows the sign, or only a point.
 pub(crate) fn blank(body: &[u8]) -> bool
     ensures { result ≡ is_blank body.now }
 {
@@ -23,20 +24,20 @@ pub(crate) fn blank(body: &[u8]) -> bool
 /// The offset of the first point, or the length.
 pub(crate) fn point(body: &[u8]) -> usize
     ensures is { result ≡ point_of body.now }
-    ensures within { result ≤ length body.now }
+    ensures bound { result ≤ length body.now }
 {
     first_point(body).unwrap_or(body.len())
 }
 
 fn first_point(body: &[u8]) -> Option<usize>
     ensures is { result ≡ position (λ b. b == 46) body.now }
-    ensures within { IfSome result (λ k. k < length body.now) }
+    ensures bound { IfSome result (λ k. k < length body.now) }
 {
     body.iter().position(|b| *b == b'.')
 }
 
 /// The bytes after the first point.
-pub(crate) fn behind(body: &[u8], point: usize) -> &[u8]
+pub(crate) fn after_point(body: &[u8], point: usize) -> &[u8]
     ensures { result.now ≡ drop (point + 1) body.now }
 {
     if point < body.len() {
@@ -56,7 +57,7 @@ pub(crate) fn stray(part: &[u8], start: usize) -> Option<usize>
 
 fn first_stray(part: &[u8]) -> Option<usize>
     ensures is { result ≡ position (λ b. not (is_digit b)) part.now }
-    ensures within { IfSome result (λ k. k < length part.now) }
+    ensures bound { IfSome result (λ k. k < length part.now) }
 {
     part.iter().position(|b| !b.is_ascii_digit())
 }

@@ -1,4 +1,4 @@
-//! Printing numbers with a fixed count of decimals.
+//! Printing numbers with a fixed number of decimals.
 
 ghost use Rattle.std.specs.Prelude.{◌≡◌, ℕ, ◌+◌, ◌*◌, ◌^◌, ◌≤◌, ◌++◌, length, decimal, unsigned_abs};
 ghost use Rattle.arrayvec.specs.ArrayVec.{array_vec_len};
@@ -7,8 +7,8 @@ ghost use Rattle.dec_text.specs.FixedPoint.{fixed_text, unsigned_text, last_digi
 use arrayvec::ArrayVec;
 use itoa::Buffer;
 
-/// Appends the number, counted in its last decimal, as in `-0.125`: a `-` where it is below zero,
-/// the whole part, and where there are decimals, a point and so many digits.
+/// Appends the number as in `-0.125`: a `-` where it is below zero, the whole part, and where there
+/// are decimals, a point and `decimals` digits. `value` counts units of the last decimal place.
 pub fn put_fixed(value: i128, decimals: u8, into: &mut ArrayVec<u8, 64>)
     requires few { decimals ≤ 12 }
     requires magnitude { unsigned_abs value ≤ 10 ^ 30 }
@@ -34,7 +34,7 @@ pub fn put_pair(lo: i128, hi: i128, into: &mut ArrayVec<u8, 128>)
     put_signed(hi, 12, into);
 }
 
-/// Appends a number that is counted in its last decimal.
+/// Appends a number that is counted in units of its last decimal place.
 fn put_signed<const N: usize>(value: i128, decimals: u8, into: &mut ArrayVec<u8, N>)
     requires few { decimals ≤ 12 }
     requires magnitude { unsigned_abs value ≤ 10 ^ 30 }
@@ -48,7 +48,7 @@ fn put_signed<const N: usize>(value: i128, decimals: u8, into: &mut ArrayVec<u8,
     put_unsigned(value.unsigned_abs(), decimals, into);
 }
 
-/// Appends a magnitude that is counted in its last decimal.
+/// Appends a magnitude that is counted in units of its last decimal place.
 fn put_unsigned<const N: usize>(magnitude: u128, decimals: u8, into: &mut ArrayVec<u8, N>)
     requires few { decimals ≤ 12 }
     requires magnitude { magnitude ≤ 10 ^ 30 }
@@ -82,14 +82,14 @@ fn put_bytes<const N: usize>(bytes: &[u8], into: &mut ArrayVec<u8, N>)
     into.try_extend_from_slice(bytes).unwrap();
 }
 
-/// Appends the last digits of a number, so many.
+/// Appends the last `count` digits of a number.
 fn put_last_digits<const N: usize>(number: u128, count: u8, into: &mut ArrayVec<u8, N>)
     requires few { count ≤ 12 }
     requires room { array_vec_len into.old + count ≤ N }
     ensures text { into.new.items ≡ into.old.items ++ last_digits count number }
     ensures len { array_vec_len into.new ≡ array_vec_len into.old + count }
 {
-    for behind in (0..count).rev() {
-        into.push(b'0' + (number / 10u128.pow(u32::from(behind)) % 10) as u8);
+    for left in (0..count).rev() {
+        into.push(b'0' + (number / 10u128.pow(u32::from(left)) % 10) as u8);
     }
 }

@@ -1,4 +1,4 @@
-//! Decimal numbers as text: reading them with their first fault, and printing them exactly.
+//! Decimal numbers as text: reading them, with the first fault reported, and printing them exactly.
 #![tactic(auto)]
 
 mod body;

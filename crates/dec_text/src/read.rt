@@ -3,17 +3,19 @@
 ghost use Rattle.std.specs.Prelude.{◌≡◌, ◌+◌, ◌<◌, ◌≤◌, ◌^◌, length};
 ghost use Rattle.dec_text.specs.Decimal.{is_minus, decimal_of, body_value, number_of};
 
-use crate::body::{behind, blank, point, sign_of, stray};
+use crate::body::{after_point, blank, point, sign_of, stray};
 use crate::fault::DecFault;
 use crate::magnitude::{LARGEST, magnitude, more};
 
-/// The number that the text writes with up to `decimals` decimals, counted in the last of them:
-/// with 4 decimals `-12.5` is -125,000. One `+` or `-` may stand first, the digits before or
-/// after the point may be missing (not both), and zeros after the last decimal are ignored.
+/// The number that the text writes with up to `decimals` decimals, counted in units of the last
+/// decimal place: with 4 decimals `-12.5` is -125,000. The text may begin with one `+` or `-`, the
+/// digits before or after the point may be missing (not both), and zeros after the last decimal
+/// place are ignored.
 ///
-/// The error is the first that holds of, in this order: nothing but a sign and a point
-/// ([`DecFault::Empty`]), a byte that is no digit ([`DecFault::NotDigit`]), a digit after the last
-/// decimal ([`DecFault::TooManyPlaces`]), a magnitude above 10^15 ([`DecFault::TooLarge`]).
+/// The error is the first of these that applies: nothing but a sign and a point
+/// ([`DecFault::Empty`]), a byte that is no digit ([`DecFault::NotDigit`]), a digit other than 0
+/// after the last decimal place ([`DecFault::TooManyPlaces`]), a magnitude above 10^15
+/// ([`DecFault::TooLarge`]).
 #[tactic(auto, unfolding(crate::specs::Decimal::decimal_of))]
 pub fn read_decimal(text: &[u8], decimals: u8) -> Result<i64, DecFault>
     requires { decimals ≤ 6 }
@@ -28,7 +30,7 @@ pub fn read_decimal(text: &[u8], decimals: u8) -> Result<i64, DecFault>
     )
 }
 
-/// The number after a sign of `sign` bytes.
+/// The number that `body`, the text after a sign of `sign` bytes, writes.
 #[tactic(auto, unfolding(crate::specs::Decimal::body_value))]
 fn value(body: &[u8], decimals: usize, minus: bool, sign: usize) -> Result<i64, DecFault>
     requires few { decimals ≤ 6 }
@@ -40,7 +42,7 @@ fn value(body: &[u8], decimals: usize, minus: bool, sign: usize) -> Result<i64, 
     }
     let point = point(body);
     let whole = &body[..point];
-    let fraction = behind(body, point);
+    let fraction = after_point(body, point);
     if let Some(offset) = stray(whole, sign) {
         return Err(DecFault::NotDigit(offset));
     }

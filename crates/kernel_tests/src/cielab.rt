@@ -25,7 +25,7 @@ fn colour<S: Scale>(x: Iv<S>, y: Iv<S>, z: Iv<S>) -> Lab<S>
 
 #[test]
 fn colours(rt: HostRuntime) {
-    // the white itself, and a grey of 0.008, which is on the linear part
+    // the white itself, and a grey of ratios 0.008, which is on the linear part of f
     let white = colour::<Base>(
         at(1_000_000_000_000),
         at(1_000_000_000_000),
@@ -41,7 +41,7 @@ fn colours(rt: HostRuntime) {
 
 #[test]
 fn colour_at_the_coarser_scale(rt: HostRuntime) {
-    // cube roots of 0.56, 0.5 and 0.3, at the coarser scale
+    // ratios whose cube roots are 0.56, 0.5 and 0.3
     let red = colour::<Quick>(at(17_561_600), at(12_500_000), at(2_700_000));
     assert_eq!(rt; ends(red.l), (4_200_000_000, 4_200_000_000));
     assert_eq!(rt;
@@ -55,13 +55,13 @@ fn colour_at_the_coarser_scale(rt: HostRuntime) {
 
 #[test]
 fn ends_on_both_parts(rt: HostRuntime) {
-    // 216/24389 lies between these two ends: the lower is on the linear part, the upper on the
-    // root
+    // 216/24389 lies between these two ends: the lower end is on the linear part of f, the upper
+    // end on the cube root
     let bent: Iv<Quick> = f_iv(Iv::of_ends(885_645, 885_646));
     assert_eq!(rt; ends(bent), (20_689_653, 20_689_662));
 }
 
-/// The least interval that holds both lightnesses.
+/// A test difference: the least interval that holds both lightnesses.
 #[derive(Drop)]
 struct Lightnesses;
 

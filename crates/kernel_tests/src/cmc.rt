@@ -23,7 +23,7 @@ fn colour<S: Scale>(l: Iv<S>, a: Iv<S>, b: Iv<S>) -> Lab<S>
 }
 
 #[test]
-fn hues_apart(rt: HostRuntime) {
+fn hue_difference(rt: HostRuntime) {
     // both of lightness 42 and chroma 50, so that the hue alone differs
     let l = at::<Base>(42_000_000_000_000);
     let a = at::<Base>(30_000_000_000_000);

@@ -1,5 +1,5 @@
 //! Tests of the intervals, their roots and the colour differences through their public calls. They
-//! stand in a crate above, so that no crate below is proved a second time for a few tests.
+//! are in a crate of their own, so that no crate that they test is proved a second time for them.
 #![tactic(auto)]
 
 #[cfg(test)]

@@ -14,7 +14,7 @@ fn roots_at_the_ends_of_the_range(rt: HostRuntime) {
 
 #[test]
 fn roots_of_intervals(rt: HostRuntime) {
-    // 2 lies between two numbers
+    // the roots of 2 lie between two numbers of the scale
     let two: Iv<Base> = Iv::of_ends(2_000_000_000_000, 2_000_000_000_000);
     assert_eq!(rt; ends(sqrt_iv(two)), (1_414_213_562_373, 1_414_213_562_374));
     assert_eq!(rt; ends(cbrt_iv(two)), (1_259_921_049_894, 1_259_921_049_895));

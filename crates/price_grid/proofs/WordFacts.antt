@@ -9,7 +9,7 @@ use Rattle.std.proofs.Math.Seq.{drop-cons}
 use Rattle.std.proofs.lemmas.List.{drop_all}
 use Rattle.std.proofs.Math.ListN.{length-take}
 use Rattle.price_grid.specs.declared.dye_cost.DyeCost.{DyeCost}
-use Rattle.price_grid.specs.Words.{is_comma, parts_behind, steps_of_texts}
+use Rattle.price_grid.specs.Words.{is_comma, remaining_parts, steps_of_texts}
 use Rattle.price_grid.specs.Grid.{IsRecipe}
 use Rattle.price_grid.proofs.GridFacts.{no_dye}
 
@@ -64,25 +64,25 @@ read xs dyes texts = option_map (λ more. xs ++ more) (steps_of_texts dyes texts
 
 -- the word ended before the dyes did
 pub ended : (xs : List ℕ) (dyes : List DyeCost) (i : ℕ) (rest all : Option (List ℕ)) → i < length dyes → rest ≡ None
-    → option_map (λ more. xs ++ more) (steps_of_texts (drop i dyes) (parts_behind rest)) ≡ all → None ≡ all
+    → option_map (λ more. xs ++ more) (steps_of_texts (drop i dyes) (remaining_parts rest)) ≡ all → None ≡ all
 ended xs dyes i rest all l e h =
-    sym (ap (λ r. read xs (drop i dyes) (parts_behind r)) e ∙ ap (option_map (λ more. xs ++ more)) (texts-end dyes i l)) ∙ h
+    sym (ap (λ r. read xs (drop i dyes) (remaining_parts r)) e ∙ ap (option_map (λ more. xs ++ more)) (texts-end dyes i l)) ∙ h
 
 -- the dyes ended before the word did
 pub over : (xs : List ℕ) (dyes : List DyeCost) (i : ℕ) (rest all : Option (List ℕ)) (text : List ℕ) → length dyes ≤ i → rest ≡ Some text
-    → option_map (λ more. xs ++ more) (steps_of_texts (drop i dyes) (parts_behind rest)) ≡ all → None ≡ all
+    → option_map (λ more. xs ++ more) (steps_of_texts (drop i dyes) (remaining_parts rest)) ≡ all → None ≡ all
 over xs dyes i rest all text l e h =
-    sym (ap (λ r. read xs (drop i dyes) (parts_behind r)) e ∙ ap (option_map (λ more. xs ++ more)) (texts-over dyes i text l)) ∙ h
+    sym (ap (λ r. read xs (drop i dyes) (remaining_parts r)) e ∙ ap (option_map (λ more. xs ++ more)) (texts-over dyes i text l)) ∙ h
 
 -- one dye more was read
-pub goes-on : (xs : List ℕ) (n : ℕ) (dyes : List DyeCost) (i : ℕ) (rest all : Option (List ℕ)) (text : List ℕ) (behind : List (List ℕ)) → i < length dyes → rest ≡ Some text
-    → ((more : List DyeCost) → steps_of_texts (get_or dyes i no_dye ∷ more) (slice_split is_comma text) ≡ option_map (λ ns. n ∷ ns) (steps_of_texts more behind))
-    → option_map (λ more. xs ++ more) (steps_of_texts (drop i dyes) (parts_behind rest)) ≡ all
-    → option_map (λ more. (xs ++ n ∷ []) ++ more) (steps_of_texts (drop (i + 1) dyes) behind) ≡ all
-goes-on xs n dyes i rest all text behind l e s h =
-    let here : steps_of_texts (drop i dyes) (slice_split is_comma text) ≡ option_map (λ ns. n ∷ ns) (steps_of_texts (drop (i + 1) dyes) behind) =
+pub goes-on : (xs : List ℕ) (n : ℕ) (dyes : List DyeCost) (i : ℕ) (rest all : Option (List ℕ)) (text : List ℕ) (after : List (List ℕ)) → i < length dyes → rest ≡ Some text
+    → ((more : List DyeCost) → steps_of_texts (get_or dyes i no_dye ∷ more) (slice_split is_comma text) ≡ option_map (λ ns. n ∷ ns) (steps_of_texts more after))
+    → option_map (λ more. xs ++ more) (steps_of_texts (drop i dyes) (remaining_parts rest)) ≡ all
+    → option_map (λ more. (xs ++ n ∷ []) ++ more) (steps_of_texts (drop (i + 1) dyes) after) ≡ all
+goes-on xs n dyes i rest all text after l e s h =
+    let here : steps_of_texts (drop i dyes) (slice_split is_comma text) ≡ option_map (λ ns. n ∷ ns) (steps_of_texts (drop (i + 1) dyes) after) =
     rw (drop-cons dyes i no_dye l, add-one) (s (drop (suc i) dyes)) in
-    one-more xs n _ ∙ ap (option_map (λ more. xs ++ more)) (sym here) ∙ sym (ap (λ r. read xs (drop i dyes) (parts_behind r)) e) ∙ h
+    one-more xs n _ ∙ ap (option_map (λ more. xs ++ more)) (sym here) ∙ sym (ap (λ r. read xs (drop i dyes) (remaining_parts r)) e) ∙ h
 
 -- a recipe of the first dyes with a number for the next
 pushed : (dyes : List DyeCost) (i : ℕ) (xs : List ℕ) (n : ℕ) → i < length dyes → IsRecipe (take i dyes) xs → n ≤ (get_or dyes i no_dye).most → IsRecipe (take (suc i) dyes) (xs ++ n ∷ [])

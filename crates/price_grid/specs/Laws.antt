@@ -6,7 +6,7 @@ use Rattle.price_grid.specs.declared.dye_cost.DyeCost.{DyeCost}
 use Rattle.price_grid.specs.declared.limit.Limit.{Limit}
 use Rattle.price_grid.specs.Cost.{cost_of}
 use Rattle.price_grid.specs.Grid.{IsUpTo}
-use Rattle.price_grid.specs.Limits.{LimitsView, breaks, shuts}
+use Rattle.price_grid.specs.Limits.{LimitsView, breaks, excludes_box}
 use Rattle.price_grid.specs.Order.{key_cmp, key_of}
 
 -- a recipe with more steps costs no less
@@ -25,9 +25,9 @@ KeysDiffer = (dyes : List DyeCost) (a b : List ℕ) → key_cmp (key_of dyes a) 
 abbrev pub ExcludedIsBroken : Type 0
 ExcludedIsBroken =
     (dyes : List DyeCost) (limits : LimitsView) (limit : Limit) (low steps high : List ℕ) → IsUpTo low steps → IsUpTo steps high
-    → shuts dyes limits limit low high ≡ true → breaks dyes limits limit steps ≡ true
+    → excludes_box dyes limits limit low high ≡ true → breaks dyes limits limit steps ≡ true
 
 -- a limit excludes the box of one recipe exactly where that recipe breaks it
 abbrev pub SingleIsBroken : Type 0
 SingleIsBroken =
-    (dyes : List DyeCost) (limits : LimitsView) (limit : Limit) (steps : List ℕ) → shuts dyes limits limit steps steps ≡ breaks dyes limits limit steps
+    (dyes : List DyeCost) (limits : LimitsView) (limit : Limit) (steps : List ℕ) → excludes_box dyes limits limit steps steps ≡ breaks dyes limits limit steps

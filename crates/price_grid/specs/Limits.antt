@@ -77,12 +77,12 @@ breaks dyes limits Ceiling steps = is_above limits.max_cost (cost_of dyes steps)
 
 -- whether a limit excludes all recipes of the box from low to high: the range where some dye is outside over all its
 -- numbers of steps, and each other limit where the lower corner breaks it
-abbrev pub shuts : List DyeCost → LimitsView → Limit → (low high : List ℕ) → Bool
-shuts dyes limits Range low high = any_outside dyes (with_bath limits.bath low) (with_bath limits.bath high)
-shuts dyes limits Count low high = breaks dyes limits Count low
-shuts dyes limits Total low high = breaks dyes limits Total low
-shuts dyes limits Pair low high = breaks dyes limits Pair low
-shuts dyes limits Ceiling low high = breaks dyes limits Ceiling low
+abbrev pub excludes_box : List DyeCost → LimitsView → Limit → (low high : List ℕ) → Bool
+excludes_box dyes limits Range low high = any_outside dyes (with_bath limits.bath low) (with_bath limits.bath high)
+excludes_box dyes limits Count low high = breaks dyes limits Count low
+excludes_box dyes limits Total low high = breaks dyes limits Total low
+excludes_box dyes limits Pair low high = breaks dyes limits Pair low
+excludes_box dyes limits Ceiling low high = breaks dyes limits Ceiling low
 
 -- the number of the first limit that passes the test
 abbrev pub first_limit : (Limit → Bool) → Option ℕ
@@ -110,7 +110,7 @@ broken_limit dyes limits steps = first_limit (λ limit. breaks dyes limits limit
 
 -- the limit of this number excludes the box from low to high
 abbrev pub is_excluded : List DyeCost → LimitsView → ℕ → (low high : List ℕ) → Bool
-is_excluded dyes limits number low high = limit_passes (λ limit. shuts dyes limits limit low high) number
+is_excluded dyes limits number low high = limit_passes (λ limit. excludes_box dyes limits limit low high) number
 
 -- what limits of the code stand for
 abbrev pub limits_view : Limits → LimitsView

@@ -28,6 +28,6 @@ abbrev pub steps_of_word : List DyeCost → List ℕ → Option (List ℕ)
 steps_of_word dyes word = steps_of_texts dyes (slice_split is_comma word)
 
 -- the parts of what follows a comma; there are none where no comma stood
-abbrev pub parts_behind : Option (List ℕ) → List (List ℕ)
-parts_behind None = []
-parts_behind (Some text) = slice_split is_comma text
+abbrev pub remaining_parts : Option (List ℕ) → List (List ℕ)
+remaining_parts None = []
+remaining_parts (Some text) = slice_split is_comma text

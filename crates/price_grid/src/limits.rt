@@ -2,7 +2,7 @@
 
 ghost use Rattle.std.specs.Prelude.{◌≡◌, length};
 ghost use Rattle.price_grid.specs.Grid.{IsRecipe, IsUpTo};
-ghost use Rattle.price_grid.specs.Limits.{FitGrid, admission, breaks, broken_limit, is_excluded, limits_view, shuts, with_bath};
+ghost use Rattle.price_grid.specs.Limits.{FitGrid, admission, breaks, broken_limit, is_excluded, limits_view, excludes_box, with_bath};
 
 use crate::grid::{Grid, Steps};
 use crate::limit::{Limit, LimitNo};
@@ -85,7 +85,7 @@ fn excludes_range(grid: &Grid, limits: &Limits, low: &Steps, high: &Steps) -> bo
     requires low { IsRecipe grid.now low.now.items }
     requires high { IsRecipe grid.now high.now.items }
     ensures { result
-        ≡ shuts grid.now (limits_view limits.now) Limit.Range low.now.items high.now.items }
+        ≡ excludes_box grid.now (limits_view limits.now) Limit.Range low.now.items high.now.items }
 {
     let least = sums_of(grid, limits, low);
     let most = sums_of(grid, limits, high);

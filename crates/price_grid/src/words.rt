@@ -4,7 +4,7 @@ ghost use Rattle.std.specs.Prelude.{◌≡◌, ◌<◌, ◌≤◌, ◌∷◌, Li
 ghost use Rattle.std.specs.List.{position, slice_split};
 ghost use Rattle.price_grid.specs.declared.dye_cost.DyeCost.{DyeCost};
 ghost use Rattle.price_grid.specs.Grid.{IsRecipe};
-ghost use Rattle.price_grid.specs.Words.{is_comma, parts_behind, steps_of_dye, steps_of_texts, steps_of_word};
+ghost use Rattle.price_grid.specs.Words.{is_comma, remaining_parts, steps_of_dye, steps_of_texts, steps_of_word};
 
 use crate::dye_cost::DyeCost;
 use crate::grid::{Grid, Steps};
@@ -12,7 +12,7 @@ use dec_text::read_whole;
 
 fn first_comma(text: &[u8]) -> Option<usize>
     ensures is { result ≡ position is_comma text.now }
-    ensures within { IfSome result (λ at. at < length text.now) }
+    ensures bound { IfSome result (λ at. at < length text.now) }
 {
     text.iter().position(|b| *b == b',')
 }
@@ -20,7 +20,7 @@ fn first_comma(text: &[u8]) -> Option<usize>
 /// The text before the first comma, and the text after it, if there is one.
 fn first_part(text: &[u8]) -> (&[u8], Option<&[u8]>)
     ensures { slice_split is_comma text.now
-        ≡ result.0.now ∷ parts_behind (option_map (λ rest. rest.now) result.1) }
+        ≡ result.0.now ∷ remaining_parts (option_map (λ rest. rest.now) result.1) }
 {
     match first_comma(text) {
         Some(at) => (&text[..at], Some(&text[at + 1..])),
@@ -48,12 +48,12 @@ fn next_steps<'a>(dye: &DyeCost, text: &'a [u8]) -> Option<(u16, Option<&'a [u8]
     ensures some { IfSome result (λ r. (dyes : List DyeCost) →
         steps_of_texts (dye.now ∷ dyes) (slice_split is_comma text.now)
         ≡ option_map (λ more. r.0 ∷ more)
-        (steps_of_texts dyes (parts_behind (option_map (λ t. t.now) r.1)))) }
+        (steps_of_texts dyes (remaining_parts (option_map (λ t. t.now) r.1)))) }
     ensures small { IfSome result (λ r. r.0 ≤ dye.now.most) }
 {
-    let (part, behind) = first_part(text);
+    let (part, following) = first_part(text);
     match steps_of_dye(dye, part) {
-        Some(n) => Some((n, behind)),
+        Some(n) => Some((n, following)),
         None => None,
     }
 }
@@ -70,11 +70,11 @@ fn steps_of_word(dyes: &[DyeCost], word: &[u8]) -> Option<Steps>
         let Some(text) = rest else {
             return None;
         };
-        let Some((n, behind)) = next_steps(dye, text) else {
+        let Some((n, following)) = next_steps(dye, text) else {
             return None;
         };
         steps.push(n);
-        rest = behind;
+        rest = following;
     }
     match rest {
         None => Some(steps),

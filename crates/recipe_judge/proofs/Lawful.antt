@@ -16,7 +16,7 @@ use Rattle.price_grid.specs.declared.limit.Limit.{Limit}
 use Rattle.price_grid.specs.Cost.{cost_of, dye_cost}
 use Rattle.price_grid.specs.Grid.{IsDyeCost, IsRecipe, IsUpTo}
 use Rattle.price_grid.specs.Laws.{ExcludedIsBroken, SingleIsBroken}
-use Rattle.price_grid.specs.Limits.{limit_passes, shuts}
+use Rattle.price_grid.specs.Limits.{limit_passes, excludes_box}
 use Rattle.price_grid.proofs.CostLaws.{cost_grows}
 use Rattle.spectral_tables.specs.WeightTable.{WeightTable}
 use Rattle.recipe_judge.specs.Evaluation.{differences_at, differences_under, tolerances}
@@ -130,7 +130,7 @@ limit_within : ExcludedIsBroken → SingleIsBroken → (r : ResolvedJob) (b : Sp
     → (recipe_land r).excluded k b ≡ true → (recipe_land r).excluded k (single steps) ≡ true
 limit_within broken alone r b steps w k e =
     let limits = over_batch r.limits r.job.batch in
-    limit_weaker (λ limit. shuts r.grid limits limit b.lo b.hi) (λ limit. shuts r.grid limits limit steps steps)
+    limit_weaker (λ limit. excludes_box r.grid limits limit b.lo b.hi) (λ limit. excludes_box r.grid limits limit steps steps)
     (λ limit f. alone r.grid limits limit steps ∙ broken r.grid limits limit b.lo steps b.hi w.0 w.1 f) k e
 
 -- a light that fails on a box fails on the box of each recipe in it
@@ -171,7 +171,7 @@ land_is_lawful broken alone r land some few =
       some_light = some;
       few_lights = few;
       cheap = λ steps w. let bound = cost_small grid steps land.grid.ranges (up_to_most_is_recipe grid steps w.1) in omega (arith, bound, land.grid.few);
-      no_limit = λ k b h. no_such_limit (λ limit. shuts r.grid (over_batch r.limits r.job.batch) limit b.lo b.hi) k h;
+      no_limit = λ k b h. no_such_limit (λ limit. excludes_box r.grid (over_batch r.limits r.job.batch) limit b.lo b.hi) k h;
       no_light = λ j b h. no_such_light r b j h;
       shut = λ b box inside shut steps w admitted. shut_fails broken alone r b steps land inside shut w admitted;
       grows = λ low high l h up. cost_grows grid low high up;

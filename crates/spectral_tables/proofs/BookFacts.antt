@@ -22,12 +22,12 @@ by_recursion : (P : List ℕ → Type 0) (name : List ℕ) (book : Book) → All
 by_recursion P name [] h = tt
 by_recursion P name (e ∷ es) h = if_some P (bytes_eq name e.0) e.1 (curve_named name es) h.0 (by_recursion P name es h.1)
 
-behind : (P : List ℕ → Type 0) (o : Option (Bor (List ℕ))) → IfSome (option_map (λ c. c.now) o) P → IfSome o (λ c. P c.now)
-behind P None h = tt
-behind P (Some c) h = h
+through : (P : List ℕ → Type 0) (o : Option (Bor (List ℕ))) → IfSome (option_map (λ c. c.now) o) P → IfSome o (λ c. P c.now)
+through P None h = tt
+through P (Some c) h = h
 
 -- what holds of each curve holds of the one that was found
 pub holds-found : (P : List ℕ → Type 0) (name : List ℕ) (book : Book) (found : Option (Bor (List ℕ))) → option_map (λ c. c.now) found ≡ curve_named name book → All (λ e. P e.1) book
     → IfSome found (λ c. P c.now)
 holds-found P name book found is all =
-    behind P found (subst (λ (o : Option (List ℕ)). IfSome o P) (sym is) (by_recursion P name book (recursion_from_All (λ (e : List ℕ × List ℕ). P e.1) book all)))
+    through P found (subst (λ (o : Option (List ℕ)). IfSome o P) (sym is) (by_recursion P name book (recursion_from_All (λ (e : List ℕ × List ℕ). P e.1) book all)))

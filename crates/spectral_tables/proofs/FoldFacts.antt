@@ -10,7 +10,7 @@ use Rattle.spectral_tables.specs.declared.fault.TableRule.TheVariants.{Unbalance
 use Rattle.spectral_tables.specs.Faults.{ensure}
 use Rattle.spectral_tables.specs.WeightTable.{Triple, WeightTable, IsTriple, IsBalanced, IsWeightTable, at_column, column_sum, magnitude_sum, total_of}
 use Rattle.spectral_tables.specs.Fold.{Covers, fold_of, rows_below}
-use Rattle.spectral_tables.specs.Run.{Rows, IsRun, row_behind, reaches_end, wavelength_behind}
+use Rattle.spectral_tables.specs.Run.{Rows, IsRun, following_row, reaches_end, following_wavelength}
 use Rattle.spectral_tables.specs.WeightFile.{IsWhite, ensure_balance}
 
 magnitude-add : (a b : ℤ) → unsigned_abs (a +ℤ b) ≤ unsigned_abs a + unsigned_abs b
@@ -93,7 +93,7 @@ ensured row column rule false u e = absurd cc
 -- a column that was found balanced, once it is folded
 balanced : (rows : Rows) (white : Triple) (column : ℕ) (u : Unit {0}) → column < 3 → IsWhite white → ensure_balance rows white column ≡ Ok u → IsBalanced (record { weights = fold_of rows.first rows.triples; white = white }) column
 balanced rows white column u lt is_white e =
-    let passed = leb-true (magnitude_sum column rows.triples) (2 * unsigned_abs (at_column column white)) (ensured (row_behind rows) (column + 2) Unbalanced _ u e) in
+    let passed = leb-true (magnitude_sum column rows.triples) (2 * unsigned_abs (at_column column white)) (ensured (following_row rows) (column + 2) Unbalanced _ u e) in
     let within : column < length white = omega (arith, is_white.0.0) in
     record {
       positive = is_white.1 column (pos 0) within;
@@ -112,7 +112,7 @@ pub table-closed : (rows : Rows) (white : Triple) (u v w : Unit {0}) → IsRun r
     → IsWeightTable (record { weights = fold_of rows.first rows.triples; white = white })
 table-closed rows white u v w run end is_white x y z =
     record {
-      count = length-fold_of rows.first rows.triples (record { tens = run.tens; from = run.from; start = run.start; end = leb-true 710 (wavelength_behind rows) end; within = run.within });
+      count = length-fold_of rows.first rows.triples (record { tens = run.tens; from = run.from; start = run.start; end = leb-true 710 (following_wavelength rows) end; last = run.last });
       triples = triples-fold_of rows.first rows.triples run.magnitudes;
       white = is_white.0.0;
       columns = columns_of _ (balanced rows white 0 u (omega arith) is_white x) (balanced rows white 1 v (omega arith) is_white y) (balanced rows white 2 w (omega arith) is_white z);

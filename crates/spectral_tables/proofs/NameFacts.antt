@@ -9,9 +9,9 @@ use Rattle.spectral_tables.specs.Faults.{◌>>=◌, ◌>>◌, ensure, each}
 use Rattle.spectral_tables.specs.CurveFile.{next_different}
 
 -- a test of what references point to
-pub list_any_behind : (name : List ℕ) (names : List (Bor (List ℕ))) → list_any (λ n. bytes_eq name n.now) names ≡ list_any (bytes_eq name) (map (λ n. n.now) names)
-list_any_behind name [] = refl
-list_any_behind name (n ∷ ns) = ap (λ b. bytes_eq name n.now || b) (list_any_behind name ns)
+pub list_any_now : (name : List ℕ) (names : List (Bor (List ℕ))) → list_any (λ n. bytes_eq name n.now) names ≡ list_any (bytes_eq name) (map (λ n. n.now) names)
+list_any_now name [] = refl
+list_any_now name (n ∷ ns) = ap (λ b. bytes_eq name n.now || b) (list_any_now name ns)
 
 -- names that were compared in turn with those before them are distinct
 distinct-each : (before items names : List (List ℕ)) → IsDistinct bytes_eq before → each next_different before items ≡ Ok names → IsDistinct bytes_eq names

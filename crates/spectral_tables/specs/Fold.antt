@@ -8,7 +8,7 @@ pub record Covers (first count : ℕ) : Type 0 where
   pub from : 300 ≤ first
   pub start : first ≤ 400
   pub end : 710 ≤ first + 10 * count
-  pub within : first + 10 * count ≤ 840
+  pub last : first + 10 * count ≤ 840
 
 -- how many rows stand before that of 400 nm
 abbrev pub rows_below : ℕ → ℕ

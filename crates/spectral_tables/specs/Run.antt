@@ -14,20 +14,20 @@ abbrev pub no_rows : Rows
 no_rows = record { first = 300; triples = [] }
 
 -- the number of the record after the rows
-abbrev pub row_behind : Rows → ℕ
-row_behind rows = length rows.triples + 2
+abbrev pub following_row : Rows → ℕ
+following_row rows = length rows.triples + 2
 
 -- the wavelength after the last row
-abbrev pub wavelength_behind : Rows → ℕ
-wavelength_behind rows = rows.first + 10 * length rows.triples
+abbrev pub following_wavelength : Rows → ℕ
+following_wavelength rows = rows.first + 10 * length rows.triples
 
 -- Has a row 700 nm or more?
 abbrev pub reaches_end : Rows → Bool
-reaches_end rows = nat_le 710 (wavelength_behind rows)
+reaches_end rows = nat_le 710 (following_wavelength rows)
 
 -- Is this the wavelength of the next row? The first is any multiple of 10 from 300 to 400, and each further one the one before plus 10.
 abbrev pub is_due : Rows → ℕ → Bool
-is_due rows nm = if length rows.triples == 0 then (nm % 10 == 0) && nat_le nm 400 else nm == wavelength_behind rows
+is_due rows nm = if length rows.triples == 0 then (nm % 10 == 0) && nat_le nm 400 else nm == following_wavelength rows
 
 -- a wavelength that is due, or none
 abbrev pub only_due : Rows → ℕ → Option ℕ
@@ -46,5 +46,5 @@ pub record IsRun (rows : Rows) : Type 0 where
   pub tens : rows.first % 10 ≡ 0
   pub from : 300 ≤ rows.first
   pub start : rows.first ≤ 400
-  pub within : wavelength_behind rows ≤ 840
+  pub last : following_wavelength rows ≤ 840
   pub magnitudes : All IsTriple rows.triples

@@ -8,7 +8,7 @@ use Rattle.spectral_tables.specs.Records.{Table, records_of, trimmed_fields, beg
 use Rattle.spectral_tables.specs.Numbers.{number_read}
 use Rattle.spectral_tables.specs.WeightTable.{Triple, WeightTable, IsTriple, at_column, magnitude_sum}
 use Rattle.spectral_tables.specs.Fold.{fold_of}
-use Rattle.spectral_tables.specs.Run.{Rows, no_rows, row_behind, reaches_end, due_wavelength, rows_with}
+use Rattle.spectral_tables.specs.Run.{Rows, no_rows, following_row, reaches_end, due_wavelength, rows_with}
 
 -- A weight with up to five decimals, or a white value, which is above 0: at most 1,000 in magnitude.
 unfoldable pub weight_of : Bool → ℕ → ℕ → List ℕ → Result ℤ TableFault
@@ -28,33 +28,33 @@ IsWhite white = IsTriple white × All (λ value. pos 0 <ℤ value) white
 -- the record of the next wavelength
 unfoldable pub with_row : Rows → List (List ℕ) → Result Rows TableFault
 with_row rows fields = do
-  nm ← or_fault (row_behind rows) 1 BadWavelength (due_wavelength rows (first_field fields))
-  triple ← each (next_weight false (row_behind rows)) [] (drop 1 fields)
+  nm ← or_fault (following_row rows) 1 BadWavelength (due_wavelength rows (first_field fields))
+  triple ← each (next_weight false (following_row rows)) [] (drop 1 fields)
   Ok (rows_with rows nm triple)
 
 -- the white record, which comes once 700 nm is reached
 unfoldable pub white_of : Rows → List (List ℕ) → Result Triple TableFault
 white_of rows fields =
-    ensure (row_behind rows) 1 BadWavelength (reaches_end rows)
-    >> each (next_weight true (row_behind rows)) [] (drop 1 fields)
+    ensure (following_row rows) 1 BadWavelength (reaches_end rows)
+    >> each (next_weight true (following_row rows)) [] (drop 1 fields)
 
 -- twice the white value of a column is at least the sum of the magnitudes of its weights
 abbrev pub ensure_balance : Rows → Triple → ℕ → Result (Unit {0}) TableFault
 ensure_balance rows white column =
-    ensure (row_behind rows) (column + 2) Unbalanced (nat_le (magnitude_sum column rows.triples) (2 * unsigned_abs (at_column column white)))
+    ensure (following_row rows) (column + 2) Unbalanced (nat_le (magnitude_sum column rows.triples) (2 * unsigned_abs (at_column column white)))
 
 -- the weights at the white record, after which no record stands
 unfoldable pub closed_of : Rows → Triple → Table → Result WeightTable TableFault
 closed_of rows white records =
     ensure_balance rows white 0 >> ensure_balance rows white 1 >> ensure_balance rows white 2
-    >> ensure (row_behind rows + 1) 1 BadWavelength (length records == 0)
+    >> ensure (following_row rows + 1) 1 BadWavelength (length records == 0)
     >> Ok (record { weights = fold_of rows.first rows.triples; white = white })
 
 -- the records after the rows, up to the white one
 unfoldable pub weights_from : Rows → Table → Result WeightTable TableFault
-weights_from rows [] = Err (fault (row_behind rows) 1 NoWhite)
+weights_from rows [] = Err (fault (following_row rows) 1 NoWhite)
 weights_from rows (line ∷ records) =
-    ensure (row_behind rows) (length line) WrongCount (length line == 4)
+    ensure (following_row rows) (length line) WrongCount (length line == 4)
     >> (if begins_with (codes "white") (trimmed_fields line)
     then white_of rows (trimmed_fields line) >>= (λ white. closed_of rows white records)
     else with_row rows (trimmed_fields line) >>= (λ more. weights_from more records))

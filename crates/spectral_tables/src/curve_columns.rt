@@ -16,7 +16,7 @@ use std::alloc::{AllocError, Global};
 /// The curve of a column: the value of each row there.
 fn curve_of(rows: &[Vec<u32>], column: usize) -> Curve
     requires waves { IsWaveCount (length rows.now) }
-    requires within { All (λ row. column < length row.items) rows.now }
+    requires has_column { All (λ row. column < length row.items) rows.now }
     requires range { All (λ row. All IsReflectance row.items) rows.now }
     ensures is { result ≡ column_of column (map (λ row. row.items) rows.now) }
     ensures held { IsCurve result }

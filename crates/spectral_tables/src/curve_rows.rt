@@ -50,7 +50,7 @@ fn row(alloc: Global, columns: usize, wave: usize, fields: &[&[u8]]) -> Result<V
     ensures is { Gives (λ v. v.items) result (row_of columns wave (map (λ f. f.now) fields.now)) }
     ensures range { IfOk result (λ v. All IsReflectance v.items) }
     ensures count { IfOk result (λ v. vec_len v + 1 ≡ columns) }
-    ensures within { IfOk result (λ v. wave < 31) }
+    ensures bound { IfOk result (λ v. wave < 31) }
 {
     let row = wave as u32 + 2;
     let start = Cell { row, column: 1 };
@@ -81,7 +81,7 @@ fn next_row(
         (row_of columns wave (trimmed_fields (stored_fields line.now))) }
     ensures range { IfOk result (λ v. All IsReflectance v.items) }
     ensures count { IfOk result (λ v. vec_len v + 1 ≡ columns) }
-    ensures within { IfOk result (λ v. wave < 31) }
+    ensures bound { IfOk result (λ v. wave < 31) }
 {
     let fields = fields_of(alloc, line)?;
     row(alloc, columns, wave, &fields)

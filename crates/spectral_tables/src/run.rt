@@ -3,7 +3,7 @@
 ghost use Rattle.std.specs.Prelude.{◌≡◌, ◌+◌, ◌*◌, ◌≤◌, ◌<◌, ◌^◌, ◌++◌, [], ◌∷◌, length, IfOk, IfSome, OnOk, option_and_then, if◌then◌else◌, ◌==◌, IsTrue};
 ghost use Rattle.dec_text.specs.Decimal.{decimal_of};
 ghost use Rattle.spectral_tables.specs.WeightTable.{IsTriple};
-ghost use Rattle.spectral_tables.specs.Run.{Rows, IsRun, no_rows, row_behind, wavelength_behind, reaches_end, is_due, due_wavelength, rows_with};
+ghost use Rattle.spectral_tables.specs.Run.{Rows, IsRun, no_rows, following_row, following_wavelength, reaches_end, is_due, due_wavelength, rows_with};
 
 use crate::numbers::{natural_in, number};
 use std::alloc::{AllocError, Global};
@@ -51,16 +51,16 @@ impl Run {
     }
 
     /// The number of the record after the rows.
-    pub(crate) fn row_behind(&self) -> u32
-        ensures is { result ≡ row_behind self.now }
+    pub(crate) fn following_row(&self) -> u32
+        ensures is { result ≡ following_row self.now }
         ensures few { result ≤ 60 }
     {
         self.triples.len() as u32 + 2
     }
 
     /// The wavelength after the last row.
-    fn wavelength_behind(&self) -> u32
-        ensures is { result ≡ wavelength_behind self.now }
+    fn following_wavelength(&self) -> u32
+        ensures is { result ≡ following_wavelength self.now }
         ensures held { IsRun self.now }
     {
         u32::from(self.first) + 10 * self.triples.len() as u32
@@ -70,7 +70,7 @@ impl Run {
     pub(crate) fn reaches_end(&self) -> bool
         ensures { result ≡ reaches_end self.now }
     {
-        710 <= self.wavelength_behind()
+        710 <= self.following_wavelength()
     }
 
     fn is_due(&self, nm: u32) -> bool
@@ -79,7 +79,7 @@ impl Run {
         if self.triples.is_empty() {
             nm % 10 == 0 && nm <= 400
         } else {
-            nm == self.wavelength_behind()
+            nm == self.following_wavelength()
         }
     }
 

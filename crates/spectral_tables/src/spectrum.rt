@@ -39,7 +39,7 @@ fn stored_ends<S: Scale>(interval: Iv<S>) -> (u64, u64)
 }
 
 /// The interval of stored ends.
-fn opened<S: Scale>(ends: (u64, u64)) -> Iv<S>
+fn interval_of_ends<S: Scale>(ends: (u64, u64)) -> Iv<S>
     requires { UpTo S.unit (ends_of ends) }
     ensures { result ≡ ends_of ends }
 {
@@ -70,7 +70,7 @@ impl<S: Scale> Spectrum<S> {
         ensures range { UpTo S.unit result }
         ensures held { IsSpectrum S.unit self.now }
     {
-        opened(self.ends.as_slice()[wave])
+        interval_of_ends(self.ends.as_slice()[wave])
     }
 
     /// How many wavelengths it has.

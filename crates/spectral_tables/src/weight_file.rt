@@ -40,7 +40,7 @@ fn ensure_balance(run: &Run, white: &[i64; 3], column: usize) -> Result<(), Tabl
     ensures { result ≡ ensure_balance run.now white.now column }
 {
     let cell = Cell {
-        row: run.row_behind(),
+        row: run.following_row(),
         column: column as u32 + 2,
     };
     let magnitudes = magnitude_sum(run.triples(), column);
@@ -52,19 +52,19 @@ fn ensure_balance(run: &Run, white: &[i64; 3], column: usize) -> Result<(), Tabl
 
 /// The weights at the white record, with `after` records after it.
 #[tactic(auto, unfolding(crate::specs::WeightFile::closed_of))]
-fn closed(run: &Run, white: [i64; 3], behind: &[ByteRecord]) -> Result<Weights, TableFault>
+fn closed(run: &Run, white: [i64; 3], after: &[ByteRecord]) -> Result<Weights, TableFault>
     requires end { IsTrue (reaches_end run.now) }
     requires white { IsWhite white }
-    ensures { result ≡ closed_of run.now white (map stored_fields behind.now) }
+    ensures { result ≡ closed_of run.now white (map stored_fields after.now) }
 {
     ensure_balance(run, &white, 0)?;
     ensure_balance(run, &white, 1)?;
     ensure_balance(run, &white, 2)?;
     let end = Cell {
-        row: run.row_behind() + 1,
+        row: run.following_row() + 1,
         column: 1,
     };
-    end.ensure(behind.is_empty(), TableRule::BadWavelength)?;
+    end.ensure(after.is_empty(), TableRule::BadWavelength)?;
     Ok(Weights {
         weights: fold(run.first(), run.triples()),
         white,
@@ -81,7 +81,7 @@ fn weights_from(alloc: Global, lines: &[ByteRecord]) -> Result<Weights, TableErr
     for (i, line) in lines.iter().enumerate() {
         let fields = fields_of(alloc, line)?;
         let end = Cell {
-            row: run.row_behind(),
+            row: run.following_row(),
             column: fields.len() as u32,
         };
         end.ensure(fields.len() == 4, TableRule::WrongCount)?;
@@ -92,7 +92,7 @@ fn weights_from(alloc: Global, lines: &[ByteRecord]) -> Result<Weights, TableErr
         run = with_row(run, &fields)?;
     }
     let missing = Cell {
-        row: run.row_behind(),
+        row: run.following_row(),
         column: 1,
     };
     Err(TableError::Fault(missing.fault(TableRule::NoWhite)))

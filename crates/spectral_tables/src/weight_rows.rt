@@ -44,7 +44,7 @@ pub(crate) fn with_row(run: Run, fields: &[&[u8]]) -> Result<Run, TableError>
     requires { length fields.now ≡ 4 }
     ensures { Gives (λ r. r) result (with_row run (map (λ f. f.now) fields.now)) }
 {
-    let row = run.row_behind();
+    let row = run.following_row();
     let start = Cell { row, column: 1 };
     let due = run.due_wavelength(first_field(fields));
     let nm = due.ok_or(start.fault(TableRule::BadWavelength))?;
@@ -60,7 +60,7 @@ pub(crate) fn white_of(run: &Run, fields: &[&[u8]]) -> Result<[i64; 3], TableFau
     ensures white { IfOk result IsWhite }
     ensures end { IfOk result (λ _. IsTrue (reaches_end run.now)) }
 {
-    let row = run.row_behind();
+    let row = run.following_row();
     let start = Cell { row, column: 1 };
     start.ensure(run.reaches_end(), TableRule::BadWavelength)?;
     triple(true, row, fields)

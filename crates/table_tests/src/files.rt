@@ -1,8 +1,8 @@
 use spectral_tables::{TableError, Weights, read_weights};
 use std::alloc::{AllocError, Global};
 
-// The header, a line with its own values at 400 nm, lines by 10 nm with the others, and the last
-// line.
+// A table of the header, a line at 400 nm with the first values, lines every 10 nm with the second
+// values, and the last line.
 pub(crate) fn table(alloc: Global, parts: [&str; 4], lines: u32) -> Result<String, AllocError> {
     let [header, first, values, last] = parts;
     let mut text = format!(in alloc; "{header}\n400,{first}\n")?;

@@ -1,5 +1,5 @@
-//! Tests of decimals, tables, ratios and lights through their public calls. They stand in a crate
-//! above, so that none of the crates below is proved a second time for a few tests.
+//! Tests of decimals, tables, ratios and lights through their public calls. They are in a crate of
+//! their own, so that none of the crates that they test is proved a second time for a few tests.
 #![tactic(auto)]
 
 #[cfg(test)]

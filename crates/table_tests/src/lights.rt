@@ -18,7 +18,7 @@ fn ends(x: Iv<Base>) -> (i128, i128) {
     (x.lo(), x.hi())
 }
 
-// the differences under a light alone and under the second of two, and the verdict on both
+// the differences under one light alone and under the second of two lights, and the verdict on both
 fn judged<D: Difference<Base>>(
     weights: &Weights,
     tolerances: (u32, u32),
@@ -50,11 +50,11 @@ fn verdicts(rt: HostRuntime) -> Result<(), Fail> {
     let rule = Cmc { l10: 20, c10: 10 };
     laws::finer(&rule);
     laws::narrower(&rule);
-    let apart = (5_868_584_212_206, 5_868_584_212_215);
+    let grey_delta = (5_868_584_212_206, 5_868_584_212_215);
     for (standard, sample, tolerances, delta, want) in [
-        (125_000, 64_000, (5869, 5869), apart, Verdict::Pass),
-        (125_000, 64_000, (5869, 5868), apart, Verdict::Fail(2)),
-        (125_000, 64_000, (5868, 0), apart, Verdict::Fail(1)),
+        (125_000, 64_000, (5869, 5869), grey_delta, Verdict::Pass),
+        (125_000, 64_000, (5869, 5868), grey_delta, Verdict::Fail(2)),
+        (125_000, 64_000, (5868, 0), grey_delta, Verdict::Fail(1)),
         (1_000_000, 1_000_000, (0, 0), (0, 0), Verdict::Pass),
         (8_000, 8_000, (1, 0), (0, 3_316_625), Verdict::Undecided),
     ] {

@@ -2,7 +2,7 @@ use Rattle.std.proofs.Common.{◌*◌, ◌∙◌, ap, lit<}
 use Rattle.interval_specs.specs.Operations.{difference_of, product_at}
 use Rattle.interval_specs.proofs.Ranges.{carry_magnitude}
 use Rattle.cmc_specs.specs.Cmc.{along_35, cos35, sin35}
-use Rattle.cmc_specs.proofs.Ranges.{bracket_up_to, turned_back_magnitude}
+use Rattle.cmc_specs.proofs.Ranges.{bracket_up_to, projection_difference_magnitude}
 use Rattle.cmc_bounds.proofs.AngleCalls.{parts_room}
 use Rattle.cmc_bounds.proofs.Calls.{some_units}
 use Rattle.cmc_bounds.proofs.angles.along_35.Goals as goal
@@ -25,4 +25,4 @@ unfolding along_35
 returns-clause-range g c =
     let n = g.S.Scale.unit in
     carry_magnitude (2000 * n) c.sub.result (along_35 n c.args.a c.args.b) (returns-clause-is g c)
-    (turned_back_magnitude n c.args.a (cos35 n) c.args.b (sin35 n) (some_units n g.S.Scale.least) c.requires.a (bracket_up_to n 819152044288 (lit< tt)) c.requires.b (bracket_up_to n 573576436351 (lit< tt)))
+    (projection_difference_magnitude n c.args.a (cos35 n) c.args.b (sin35 n) (some_units n g.S.Scale.least) c.requires.a (bracket_up_to n 819152044288 (lit< tt)) c.requires.b (bracket_up_to n 573576436351 (lit< tt)))

@@ -11,7 +11,7 @@ returns-then-is_outside-clause-is g c =
     let n = g.S.Scale.unit in
     let p = hue_sum_15 n c.args.a c.args.b in
     let r = hue_sum_16 n c.args.a c.args.b in
-    let outside = c.is_outside.ensures ∙ (λ i. is_outside (c.turned-p.ensures.is i) (c.turned-r.ensures.is i)) in
+    let outside = c.is_outside.ensures ∙ (λ i. is_outside (c.projection-p.ensures.is i) (c.projection-r.ensures.is i)) in
     first_chosen (is_outside p r) (is_inside p r) (first_form n c.args.a c.args.b c.args.c1) (second_form n c.args.a c.args.b c.args.c1) c.first_form.result (sym outside ∙ c.if-is_outside.true) c.first_form.ensures.is
 
 pub returns-then-is_outside-clause-least : goal.returns-then-is_outside-clause-least
@@ -25,8 +25,8 @@ returns-then-is_inside-clause-is g c =
     let n = g.S.Scale.unit in
     let p = hue_sum_15 n c.args.a c.args.b in
     let r = hue_sum_16 n c.args.a c.args.b in
-    let outside = c.is_outside.ensures ∙ (λ i. is_outside (c.turned-p.ensures.is i) (c.turned-r.ensures.is i)) in
-    let inside = c.is_inside.ensures ∙ (λ i. is_inside (c.turned-p.ensures.is i) (c.turned-r.ensures.is i)) in
+    let outside = c.is_outside.ensures ∙ (λ i. is_outside (c.projection-p.ensures.is i) (c.projection-r.ensures.is i)) in
+    let inside = c.is_inside.ensures ∙ (λ i. is_inside (c.projection-p.ensures.is i) (c.projection-r.ensures.is i)) in
     second_chosen (is_outside p r) (is_inside p r) (first_form n c.args.a c.args.b c.args.c1) (second_form n c.args.a c.args.b c.args.c1) c.second_form.result (sym outside ∙ c.if-is_outside.false) (sym inside ∙ c.if-is_inside.true) c.second_form.ensures.is
 
 pub returns-then-is_inside-clause-least : goal.returns-then-is_inside-clause-least
@@ -40,8 +40,8 @@ returns-else-is_inside-clause-is g c =
     let n = g.S.Scale.unit in
     let p = hue_sum_15 n c.args.a c.args.b in
     let r = hue_sum_16 n c.args.a c.args.b in
-    let outside = c.is_outside.ensures ∙ (λ i. is_outside (c.turned-p.ensures.is i) (c.turned-r.ensures.is i)) in
-    let inside = c.is_inside.ensures ∙ (λ i. is_inside (c.turned-p.ensures.is i) (c.turned-r.ensures.is i)) in
+    let outside = c.is_outside.ensures ∙ (λ i. is_outside (c.projection-p.ensures.is i) (c.projection-r.ensures.is i)) in
+    let inside = c.is_inside.ensures ∙ (λ i. is_inside (c.projection-p.ensures.is i) (c.projection-r.ensures.is i)) in
     both_chosen (is_outside p r) (is_inside p r) (first_form n c.args.a c.args.b c.args.c1) (second_form n c.args.a c.args.b c.args.c1) c.first_form-else-is_inside.result c.second_form-else-is_inside.result c.hull.result
     (sym outside ∙ c.if-is_outside.false) (sym inside ∙ c.if-is_inside.false) c.first_form-else-is_inside.ensures.is c.second_form-else-is_inside.ensures.is c.hull.ensures.is
 

@@ -14,7 +14,7 @@ pub returns-clause-is : goal.returns-clause-is
 unfolding second_form along_12
 returns-clause-is g c =
     let n = g.S.Scale.unit in
-    let magnitude = c.cosine_magnitude-magnitude.ensures.is ∙ ap (λ w. cosine_magnitude n w c.args.c1) c.turned.ensures.is in
+    let magnitude = c.cosine_magnitude-magnitude.ensures.is ∙ ap (λ w. cosine_magnitude n w c.args.c1) c.projection.ensures.is in
     let part = c.ratio_up.ensures.is ∙ ap (λ x. fraction_of 2 10 x) magnitude in
     c.add.ensures.is ∙ (λ i. sum_of (c.of_ratio-least.ensures.is i) (part i))
 

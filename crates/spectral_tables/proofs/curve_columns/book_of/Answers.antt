@@ -6,8 +6,8 @@ use Rattle.spectral_tables.specs.CurveFile.{column_of}
 use Rattle.spectral_tables.proofs.ColumnFacts.{row-at, holds-none, holds-inserted, holds-book}
 use Rattle.spectral_tables.proofs.curve_columns.book_of.Goals as goal
 
-pub curve_of-requires-clause-within : goal.curve_of-requires-clause-within
-curve_of-requires-clause-within c = λ k d lt.
+pub curve_of-requires-clause-has_column : goal.curve_of-requires-clause-has_column
+curve_of-requires-clause-has_column c = λ k d lt.
     let row = row-at (length c.args.names.now + 1) c.args.rows.now c.requires.shape k d lt in
     omega (arith, row.count, c.loop-column-test.true)
 

@@ -16,14 +16,14 @@ reflectance : (stored slice : List (ℕ × ℕ)) (view : List Ends) (wave : ℕ)
     → slice_get view wave ≡ Some (ends_of (get_or slice wave (0, 0)))
 reflectance stored slice view wave is same lt = rw (same, ← is) (slice_get-stored stored wave (subst (λ p. wave < length p) (sym is) lt))
 
-pub opened-requires : goal.opened-requires
-opened-requires g c = range g.S.Scale.unit c.self.inside.ends.items c.as_slice.result.now c.args.self.now c.args.wave c.self.view_is c.as_slice.ensures.value c.self.invariant c.requires
+pub interval_of_ends-requires : goal.interval_of_ends-requires
+interval_of_ends-requires g c = range g.S.Scale.unit c.self.inside.ends.items c.as_slice.result.now c.args.self.now c.args.wave c.self.view_is c.as_slice.ensures.value c.self.invariant c.requires
 
 pub returns-clause-is : goal.returns-clause-is
 returns-clause-is g c =
-    reflectance c.self.inside.ends.items c.as_slice.result.now c.args.self.now c.args.wave c.self.view_is c.as_slice.ensures.value c.requires ∙ ap Some (sym c.opened.ensures)
+    reflectance c.self.inside.ends.items c.as_slice.result.now c.args.self.now c.args.wave c.self.view_is c.as_slice.ensures.value c.requires ∙ ap Some (sym c.interval_of_ends.ensures)
 
 pub returns-clause-range : goal.returns-clause-range
 returns-clause-range g c =
-    carry_up_to g.S.Scale.unit c.opened.result (ends_of (get_or c.as_slice.result.now c.args.wave (0, 0))) c.opened.ensures
+    carry_up_to g.S.Scale.unit c.interval_of_ends.result (ends_of (get_or c.as_slice.result.now c.args.wave (0, 0))) c.interval_of_ends.ensures
     (range g.S.Scale.unit c.self.inside.ends.items c.as_slice.result.now c.args.self.now c.args.wave c.self.view_is c.as_slice.ensures.value c.self.invariant c.requires)

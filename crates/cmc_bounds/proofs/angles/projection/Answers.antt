@@ -2,10 +2,10 @@ use Rattle.std.proofs.Common.{◌*◌, ◌∙◌, ap}
 use Rattle.interval_specs.specs.Operations.{product_at, sum_of}
 use Rattle.interval_specs.proofs.Ranges.{carry_magnitude}
 use Rattle.cmc_specs.specs.Cmc.{bracket}
-use Rattle.cmc_specs.proofs.Ranges.{bracket_up_to, turned_magnitude}
+use Rattle.cmc_specs.proofs.Ranges.{bracket_up_to, projection_magnitude}
 use Rattle.cmc_bounds.proofs.AngleCalls.{parts_room}
 use Rattle.cmc_bounds.proofs.Calls.{some_units}
-use Rattle.cmc_bounds.proofs.angles.turned.Goals as goal
+use Rattle.cmc_bounds.proofs.angles.projection.Goals as goal
 
 pub add-requires : goal.add-requires
 add-requires g c =
@@ -23,4 +23,4 @@ pub returns-clause-range : goal.returns-clause-range
 returns-clause-range g c =
     let n = g.S.Scale.unit in
     carry_magnitude (2000 * n) c.add.result (sum_of (product_at n c.args.a (bracket n c.args.cos)) (product_at n c.args.b (bracket n c.args.sin))) (returns-clause-is g c)
-    (turned_magnitude n c.args.a (bracket n c.args.cos) c.args.b (bracket n c.args.sin) (some_units n g.S.Scale.least) c.requires.a (bracket_up_to n c.args.cos c.requires.cos) c.requires.b (bracket_up_to n c.args.sin c.requires.sin))
+    (projection_magnitude n c.args.a (bracket n c.args.cos) c.args.b (bracket n c.args.sin) (some_units n g.S.Scale.least) c.requires.a (bracket_up_to n c.args.cos c.requires.cos) c.requires.b (bracket_up_to n c.args.sin c.requires.sin))

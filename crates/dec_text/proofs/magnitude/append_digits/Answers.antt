@@ -1,7 +1,7 @@
 use Rattle.std.proofs.Common.{◌+◌, ◌∙◌, arith}
 use Rattle.dec_text.specs.Decimal.{largest}
 use Rattle.dec_text.proofs.Magnitudes.{capped_step}
-use Rattle.dec_text.proofs.magnitude.digits_behind.Goals as goal
+use Rattle.dec_text.proofs.magnitude.append_digits.Goals as goal
 
 pub loop-digit-preserved : goal.loop-digit-preserved
 loop-digit-preserved c = record {

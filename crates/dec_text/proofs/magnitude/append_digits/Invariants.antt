@@ -1,6 +1,6 @@
 use Rattle.std.proofs.Common.{◌≡◌, ◌+◌, ◌≤◌, min, drop}
 use Rattle.dec_text.specs.Decimal.{digits_from, largest}
-use Rattle.dec_text.proofs.magnitude.digits_behind.Given as goal
+use Rattle.dec_text.proofs.magnitude.append_digits.Given as goal
 
 abbrev pub invariant-loop-digit : goal.invariant-loop-digit
 invariant-loop-digit l = record {
