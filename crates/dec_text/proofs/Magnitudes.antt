@@ -21,7 +21,7 @@ capped_step most number next i s h e = capped-digits_from most next (10 * number
 grown : (most b q : ℕ) → most ≤ b → 0 < q → most ≤ b * q
 grown most b q h some = grind arith
 
--- the product of a capped number, capped, is that of the number
+-- the capped product of a capped number is that of the number itself
 pub capped_product : (most a b q : ℕ) → a ≡ min most b → 0 < q → min (a * q) most ≡ min most (b * q)
 capped_product most a b q e some = ⊎_elim
     (λ under. let x : a ≡ b = omega arith in let y : a * q ≡ b * q = ap (λ t. t * q) x in omega arith)

@@ -7,7 +7,7 @@ use Rattle.price_grid.specs.declared.dye_cost.DyeCost.{DyeCost}
 use Rattle.price_grid.specs.Grid.{IsGrid, IsRecipe, IsUpTo}
 use Rattle.price_grid.specs.Limits.{with_bath}
 
--- the value of a look-up past the end of the dyes
+-- the default of a look-up past the end of the dyes
 abbrev pub no_dye : DyeCost
 no_dye = record { step = 0; least = 0; most = 0; price = 0; fee = 0 }
 
@@ -22,7 +22,7 @@ AllZip-at R (x ∷ xs) (y ∷ ys) (suc i) d e r l = AllZip-at R xs ys i d e r.1 
 pub recipe-length : (dyes : List DyeCost) (steps : List ℕ) → IsRecipe dyes steps → length steps ≡ length dyes
 recipe-length dyes steps r = AllZip-long (λ (dye : DyeCost) (n : ℕ). n ≤ dye.most) dyes steps r
 
--- none above the most of its dye
+-- no number of a recipe is above the most steps of its dye
 pub recipe-at : (dyes : List DyeCost) (steps : List ℕ) (i : ℕ) (d : DyeCost) → IsRecipe dyes steps → i < length dyes → get_or steps i 0 ≤ (get_or dyes i d).most
 recipe-at dyes steps i d r l = AllZip-at (λ (dye : DyeCost) (n : ℕ). n ≤ dye.most) dyes steps i d 0 r l
 

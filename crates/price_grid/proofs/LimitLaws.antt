@@ -12,7 +12,7 @@ use Rattle.price_grid.specs.Limits.{any_outside, dyes_used, has_both, is_above, 
 use Rattle.price_grid.proofs.CostLaws.{cost_grows}
 use Rattle.price_grid.proofs.SumFacts.{zip_sum-grows}
 
--- what is in the bath is added to both
+-- the bath adds the same steps to both
 with_bath-grows : (bath low high : List ℕ) → IsUpTo low high → IsUpTo (with_bath bath low) (with_bath bath high)
 with_bath-grows [] low high h = tt
 with_bath-grows (b ∷ bath) [] [] h = tt
@@ -20,7 +20,7 @@ with_bath-grows (b ∷ bath) [] (n ∷ high) h = absurd h
 with_bath-grows (b ∷ bath) (l ∷ low) [] h = absurd h
 with_bath-grows (b ∷ bath) (l ∷ low) (n ∷ high) h = (omega (arith, h.0), with_bath-grows bath low high h.1)
 
--- a dye that there are any steps of counts once
+-- a dye with any steps counts once
 used-step : (n : ℕ) (steps : List ℕ) → dyes_used (n ∷ steps) ≡ (if nat_lt 0 n then 1 else 0) + dyes_used steps
 used-step n steps = sum_by-cons (λ (m : ℕ). if nat_lt 0 m then 1 else 0) n steps
 

@@ -5,12 +5,12 @@ use Rattle.std.proofs.Math.Seq.{drop-cons}
 use Rattle.price_grid.specs.Sums.{zip_sum}
 
 module _ {A B : Type 0} (f : A → B → ℕ) where
-  -- the sum from a place on is what f gives there and the sum behind it
+  -- the sum from an index on is f of the items there plus the sum after it
   pub zip_sum-drop : (xs : List A) (ys : List B) (i : ℕ) (x : A) (y : B) → i < length xs → i < length ys
       → zip_sum f (drop i xs) (drop i ys) ≡ f (get_or xs i x) (get_or ys i y) + zip_sum f (drop (i + 1) xs) (drop (i + 1) ys)
   zip_sum-drop xs ys i x y l k = rw (add-one, drop-cons xs i x l, drop-cons ys i y k) refl
 
-  -- a sum of as many numbers up to a bound
+  -- a sum of numbers that are each up to a bound
   pub zip_sum-bound : (R : A → B → Type 0) (most : ℕ) → ((x : A) (y : B) → R x y → f x y ≤ most) → (xs : List A) (ys : List B) → AllZip R xs ys → zip_sum f xs ys ≤ length xs * most
   zip_sum-bound R most h [] ys r = omega arith
   zip_sum-bound R most h (x ∷ xs) [] r = omega arith

@@ -32,7 +32,7 @@ parts_at text at h = go (nat_lt first (length text)) refl h where
       subst (λ k. slice_split is_comma text ≡ take k text ∷ slice_split is_comma (drop (k + 1) text)) same (slice_split_first is_comma text 0 (below first (length text) e))
   go false e s = cc
 
--- with no comma the text is the one part
+-- with no comma the text is the only part
 pub one_part : (text : List ℕ) → position is_comma text ≡ None → slice_split is_comma text ≡ text ∷ []
 one_part text h = go (nat_lt first (length text)) refl h where
   first : ℕ
@@ -53,12 +53,12 @@ texts-over dyes i text l = rw (drop_all i dyes l) (some (slice_split is_comma te
   some [] h = absurd (omega arith)
   some (part ∷ parts) h = refl
 
--- one number more at the end of those that were read, or in front of those that come
+-- one more number, at the end of those read so far or at the beginning of those that follow
 pub one-more : (xs : List ℕ) (n : ℕ) (o : Option (List ℕ)) → option_map (λ more. (xs ++ n ∷ []) ++ more) o ≡ option_map (λ more. xs ++ more) (option_map (λ more. n ∷ more) o)
 one-more xs n None = refl
 one-more xs n (Some more) = ap Some (append_assoc xs (n ∷ []) more)
 
--- what the texts from some dye on spell, behind the numbers that were read
+-- the numbers read so far, followed by those that the texts from some dye on spell
 abbrev read : List ℕ → List DyeCost → List (List ℕ) → Option (List ℕ)
 read xs dyes texts = option_map (λ more. xs ++ more) (steps_of_texts dyes texts)
 
@@ -74,7 +74,7 @@ pub over : (xs : List ℕ) (dyes : List DyeCost) (i : ℕ) (rest all : Option (L
 over xs dyes i rest all text l e h =
     sym (ap (λ r. read xs (drop i dyes) (remaining_parts r)) e ∙ ap (option_map (λ more. xs ++ more)) (texts-over dyes i text l)) ∙ h
 
--- one dye more was read
+-- the number of one more dye was read
 pub goes-on : (xs : List ℕ) (n : ℕ) (dyes : List DyeCost) (i : ℕ) (rest all : Option (List ℕ)) (text : List ℕ) (after : List (List ℕ)) → i < length dyes → rest ≡ Some text
     → ((more : List DyeCost) → steps_of_texts (get_or dyes i no_dye ∷ more) (slice_split is_comma text) ≡ option_map (λ ns. n ∷ ns) (steps_of_texts more after))
     → option_map (λ more. xs ++ more) (steps_of_texts (drop i dyes) (remaining_parts rest)) ≡ all
@@ -84,7 +84,7 @@ goes-on xs n dyes i rest all text after l e s h =
     rw (drop-cons dyes i no_dye l, add-one) (s (drop (suc i) dyes)) in
     one-more xs n _ ∙ ap (option_map (λ more. xs ++ more)) (sym here) ∙ sym (ap (λ r. read xs (drop i dyes) (remaining_parts r)) e) ∙ h
 
--- a recipe of the first dyes with a number for the next
+-- a recipe of the first dyes, with a number for the next dye added
 pushed : (dyes : List DyeCost) (i : ℕ) (xs : List ℕ) (n : ℕ) → i < length dyes → IsRecipe (take i dyes) xs → n ≤ (get_or dyes i no_dye).most → IsRecipe (take (suc i) dyes) (xs ++ n ∷ [])
 pushed [] i xs n l r h = absurd (omega arith)
 pushed (dye ∷ dyes) zero [] n l r h = (h, tt)

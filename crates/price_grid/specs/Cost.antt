@@ -3,7 +3,7 @@ use Rattle.std.specs.Prelude.{◌+◌, ◌*◌, ◌==◌, ℕ, List, if◌then�
 use Rattle.price_grid.specs.declared.dye_cost.DyeCost.{DyeCost}
 use Rattle.price_grid.specs.Sums.{zip_sum}
 
--- what so many steps of one dye cost: the price of their units, and the fee where there is any step
+-- what n steps of one dye cost: the price of their units, and the fee where there is any step
 abbrev pub dye_cost : DyeCost → ℕ → ℕ
 dye_cost dye n = n * dye.step * dye.price + (if n == 0 then 0 else dye.fee)
 

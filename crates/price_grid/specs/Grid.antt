@@ -15,13 +15,13 @@ pub record IsDyeCost (dye : DyeCost) : Type 0 where
   pub small_fee : dye.fee ≤ 10 ^ 12
   pub narrow : dye.step * dye.most ≤ 20000
 
--- what a grid keeps
+-- the invariant of a grid
 pub record IsGrid (dyes : List DyeCost) : Type 0 where
   pub some : 1 ≤ length dyes
   pub few : length dyes ≤ 12
   pub ranges : All IsDyeCost dyes
 
--- a recipe of the grid: for each dye a number of steps up to its most
+-- a recipe of the grid: for each dye a number of steps up to the most of the dye
 abbrev pub IsRecipe : List DyeCost → List ℕ → Type 0
 IsRecipe dyes steps = AllZip (λ dye n. n ≤ dye.most) dyes steps
 

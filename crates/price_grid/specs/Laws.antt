@@ -13,7 +13,7 @@ use Rattle.price_grid.specs.Order.{key_cmp, key_of}
 abbrev pub CostGrows : Type 0
 CostGrows = (dyes : List DyeCost) (low high : List ℕ) → IsUpTo low high → cost_of dyes low ≤ cost_of dyes high
 
--- any two keys are ordered
+-- the order of keys is total
 abbrev pub KeysAreOrdered : Type 0
 KeysAreOrdered = IsTotalOrder key_cmp
 

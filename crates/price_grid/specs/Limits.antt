@@ -10,8 +10,8 @@ use Rattle.price_grid.specs.Cost.{cost_of}
 use Rattle.price_grid.specs.Grid.{IsRecipe}
 use Rattle.price_grid.specs.Sums.{zip_sum}
 
--- what a job allows: at most so many dyes and so many units of all dyes together, at most this cost, if there is a
--- ceiling, and no two dyes of a forbidden pair, each given by its number from 1. In the bath there are steps already
+-- the limits of a job: the most dyes, the most units of all dyes together, the highest cost, if there is a ceiling, and the
+-- pairs of dyes that a recipe may not have together, each dye by its number from 1; and the steps already in the bath
 pub record LimitsView : Type 0 where
   pub max_dyes : ℕ
   pub max_total : ℕ
@@ -32,24 +32,24 @@ pub record FitGrid (dyes : List DyeCost) (limits : LimitsView) : Type 0 where
   pub bath : IsRecipe dyes limits.bath
   pub pairs : All (IsPair dyes) limits.pairs
 
--- the steps that a recipe comes to with those in the bath
+-- the steps of a recipe plus those in the bath
 abbrev pub with_bath : List ℕ → List ℕ → List ℕ
 with_bath [] steps = []
 with_bath (b ∷ bath) [] = []
 with_bath (b ∷ bath) (n ∷ steps) = (b + n) ∷ with_bath bath steps
 
--- all numbers of steps from low to high are above the most of the dye, or all are above 0 and below its least
+-- all numbers of steps from low to high are above the most steps of the dye, or all are above 0 and below its fewest
 abbrev pub is_outside : DyeCost → ℕ → ℕ → Bool
 is_outside dye low high = nat_lt dye.most low || (nat_lt 0 low && nat_lt high dye.least)
 
--- some dye is outside its range for all numbers of steps from its low to its high one
+-- some dye is outside its range for all its numbers of steps from low to high
 abbrev pub any_outside : List DyeCost → (low high : List ℕ) → Bool
 any_outside [] low high = false
 any_outside (dye ∷ dyes) [] high = false
 any_outside (dye ∷ dyes) (l ∷ low) [] = false
 any_outside (dye ∷ dyes) (l ∷ low) (h ∷ high) = is_outside dye l h || any_outside dyes low high
 
--- how many dyes there are any steps of
+-- how many dyes have any steps
 abbrev pub dyes_used : List ℕ → ℕ
 dyes_used steps = count_by (λ n. nat_lt 0 n) steps
 
@@ -66,8 +66,8 @@ abbrev pub is_above : Option ℕ → ℕ → Bool
 is_above None cost = false
 is_above (Some most) cost = nat_lt most cost
 
--- whether a recipe breaks a limit. The range, the count, the total and the pairs are those of what is in the bath with
--- the recipe added, and the cost is that of the recipe alone
+-- whether a recipe breaks a limit. The range, the count, the total and the pairs are judged on the recipe plus the bath,
+-- the cost on the recipe alone
 abbrev pub breaks : List DyeCost → LimitsView → Limit → List ℕ → Bool
 breaks dyes limits Range steps = any_outside dyes (with_bath limits.bath steps) (with_bath limits.bath steps)
 breaks dyes limits Count steps = nat_lt limits.max_dyes (dyes_used (with_bath limits.bath steps))
@@ -75,8 +75,8 @@ breaks dyes limits Total steps = nat_lt limits.max_total (units_of dyes (with_ba
 breaks dyes limits Pair steps = list_any (has_both (with_bath limits.bath steps)) limits.pairs
 breaks dyes limits Ceiling steps = is_above limits.max_cost (cost_of dyes steps)
 
--- whether a limit excludes all recipes of the box from low to high: the range where some dye is outside over all its
--- numbers of steps, and each other limit where the lower corner breaks it
+-- whether a limit excludes all recipes of the box from low to high: the range does where some dye is outside it for all its
+-- numbers of steps, and each other limit where the lowest recipe of the box breaks it
 abbrev pub excludes_box : List DyeCost → LimitsView → Limit → (low high : List ℕ) → Bool
 excludes_box dyes limits Range low high = any_outside dyes (with_bath limits.bath low) (with_bath limits.bath high)
 excludes_box dyes limits Count low high = breaks dyes limits Count low
@@ -84,7 +84,7 @@ excludes_box dyes limits Total low high = breaks dyes limits Total low
 excludes_box dyes limits Pair low high = breaks dyes limits Pair low
 excludes_box dyes limits Ceiling low high = breaks dyes limits Ceiling low
 
--- the number of the first limit that passes the test
+-- the number of the first limit that satisfies the test
 abbrev pub first_limit : (Limit → Bool) → Option ℕ
 first_limit test =
     if test Range then Some 1
@@ -94,7 +94,7 @@ first_limit test =
     else (if test Ceiling then Some 5
     else None))))
 
--- the limit of this number passes the test. There is none of a number outside 1 to 5
+-- the limit of this number satisfies the test. There is no limit with a number outside 1 to 5
 abbrev pub limit_passes : (Limit → Bool) → ℕ → Bool
 limit_passes test number =
     if number == 1 then test Range
@@ -112,7 +112,7 @@ broken_limit dyes limits steps = first_limit (λ limit. breaks dyes limits limit
 abbrev pub is_excluded : List DyeCost → LimitsView → ℕ → (low high : List ℕ) → Bool
 is_excluded dyes limits number low high = limit_passes (λ limit. excludes_box dyes limits limit low high) number
 
--- what limits of the code stand for
+-- the limits that a value of the code stands for
 abbrev pub limits_view : Limits → LimitsView
 limits_view l = record { max_dyes = l.max_dyes; max_total = l.max_total; max_cost = l.max_cost; pairs = l.pairs.items; bath = l.bath.items }
 

@@ -1,4 +1,4 @@
--- Recipes in a word of the command line.
+-- Recipes as words of the command line.
 use Rattle.std.specs.Prelude.{◌==◌, ℕ, Bool, nat_le, Option, Some, None, option_and_then, option_map, List, [], ◌∷◌, if◌then◌else◌}
 use Rattle.std.specs.List.{slice_split}
 use Rattle.dec_text.specs.Whole.{whole_number}
@@ -7,11 +7,11 @@ use Rattle.price_grid.specs.declared.dye_cost.DyeCost.{DyeCost}
 abbrev pub is_comma : ℕ → Bool
 is_comma byte = byte == 44
 
--- the steps of a dye that a text spells: one to four digits, with leading zeros or not, and up to the most of the dye
+-- the steps of a dye that a text spells: one to four digits, leading zeros allowed, and up to the most steps of the dye
 abbrev pub steps_of_dye : DyeCost → List ℕ → Option ℕ
 steps_of_dye dye text = option_and_then (λ n. if nat_le n dye.most then Some n else None) (whole_number 4 text)
 
--- the recipe with this number of steps of its first dye, if there are both
+-- a recipe with this number of steps of one more dye before the others, if both are there
 abbrev pub with_first : Option ℕ → Option (List ℕ) → Option (List ℕ)
 with_first None steps = None
 with_first (Some n) steps = option_map (λ rest. n ∷ rest) steps
@@ -23,11 +23,11 @@ steps_of_texts [] (text ∷ texts) = None
 steps_of_texts (dye ∷ dyes) [] = None
 steps_of_texts (dye ∷ dyes) (text ∷ texts) = with_first (steps_of_dye dye text) (steps_of_texts dyes texts)
 
--- the recipe that a word spells: the numbers of its dyes, with a comma between each two
+-- the recipe that a word spells: the numbers of its dyes, with commas between them
 abbrev pub steps_of_word : List DyeCost → List ℕ → Option (List ℕ)
 steps_of_word dyes word = steps_of_texts dyes (slice_split is_comma word)
 
--- the parts of what follows a comma; there are none where no comma stood
+-- the parts of the text after a comma, and none where there was no comma
 abbrev pub remaining_parts : Option (List ℕ) → List (List ℕ)
 remaining_parts None = []
 remaining_parts (Some text) = slice_split is_comma text

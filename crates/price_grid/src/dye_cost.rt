@@ -1,6 +1,6 @@
 //! One dye of a grid.
 
-/// What a dye costs, and how much of it may be weighed out.
+/// What a dye costs, and how much of it a recipe may have.
 #[derive(Clone, Copy, Debug, Default, PartialEq, Eq)]
 pub struct DyeCost {
     /// The weight of one step, 1 to 20,000 units of 0.001 percent of the weight of the cloth.
@@ -11,6 +11,6 @@ pub struct DyeCost {
     pub most: u16,
     /// The price of one unit in cost units, up to 1,000,000.
     pub price: u64,
-    /// What is paid once for a recipe that has any of this dye, up to 10^12 cost units.
+    /// The fee that a recipe with any of this dye costs once, up to 10^12 cost units.
     pub fee: u64,
 }

@@ -9,8 +9,8 @@ use std::marker::Model;
 /// A recipe: the steps of each dye, in the order of the grid.
 pub type Steps = ArrayVec<u16, 12>;
 
-/// The dyes of a job, one to twelve. Its recipes are all lists of one number of steps for each dye,
-/// from 0 to the most of that dye.
+/// The dyes of a job, one to twelve. The recipes of the grid are all lists with a number of steps
+/// for each dye, from 0 to the most steps of that dye.
 #[derive(Debug, Drop)]
 pub struct Grid {
     /// The dyes in the order of the job.
@@ -30,7 +30,7 @@ impl Model for Grid {
     ghost invariant = { λ g. IsGrid g.dyes.items };
 }
 
-/// A copy of a recipe, which takes no memory.
+/// A copy of a recipe. It allocates no memory.
 pub fn copy_of(steps: &Steps) -> Steps
     ensures { result.items ≡ steps.now.items }
 {

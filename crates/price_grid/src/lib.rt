@@ -1,8 +1,8 @@
 //! The recipes of a weighing grid: what a recipe costs, which limits it breaks, and the order of
 //! recipes.
 //!
-//! A recipe is one whole number of steps for each dye, in the order of the job. The grid says how
-//! much a step of each dye weighs, how many there may be, and what they cost.
+//! A recipe is a whole number of steps for each dye, in the order of the job. The grid says how
+//! much a step of each dye weighs, how many steps there may be, and what they cost.
 #![tactic(auto)]
 
 mod dye_cost;

@@ -1,7 +1,7 @@
 //! The limits by name and by number.
 
-/// The number of a limit, from 1 to 5: the range of each dye, the count of dyes, the total of
-/// units, the forbidden pairs, the ceiling of the cost.
+/// The number of a limit, from 1 to 5: the range of each dye, the number of dyes, the total of
+/// units, the forbidden pairs, and the ceiling of the cost.
 #[derive(Clone, Copy, Debug, PartialEq, Eq)]
 pub struct LimitNo(pub u8);
 
@@ -10,11 +10,11 @@ pub struct LimitNo(pub u8);
 pub enum Limit {
     /// The steps of each dye.
     Range,
-    /// How many dyes there are any steps of.
+    /// How many dyes have any steps.
     Count,
     /// The units of all dyes together.
     Total,
-    /// The dyes that may not stand together.
+    /// The pairs of dyes that a recipe may not have together.
     Pair,
     /// The cost.
     Ceiling,

@@ -10,7 +10,7 @@ use crate::measures::{any_outside, dyes_used, has_pair, is_above, units_of, with
 use crate::pricing::cost;
 use arrayvec::ArrayVec;
 
-/// What a job allows of a recipe. Dyes are numbered from 1.
+/// The limits that a job sets to a recipe. Dyes are numbered from 1.
 #[derive(Debug, Drop)]
 pub struct Limits {
     /// How many dyes may have any steps.
@@ -19,13 +19,13 @@ pub struct Limits {
     pub max_total: u32,
     /// The highest cost, if there is a ceiling.
     pub max_cost: Option<u64>,
-    /// The dyes that may not stand together.
+    /// The pairs of dyes that a recipe may not have together.
     pub pairs: ArrayVec<(u8, u8), 66>,
-    /// The steps of each dye that are in the bath: all 0, but in a correction.
+    /// The steps of each dye that are already in the bath: all 0, except in a correction.
     pub bath: Steps,
 }
 
-/// The steps of a recipe with those in the bath.
+/// The steps of a recipe plus those in the bath.
 fn sums_of(grid: &Grid, limits: &Limits, steps: &Steps) -> Steps
     requires fit { FitGrid grid.now (limits_view limits.now) }
     requires recipe { IsRecipe grid.now steps.now.items }
@@ -54,7 +54,7 @@ fn breaks(grid: &Grid, limits: &Limits, limit: Limit, steps: &Steps) -> bool
     }
 }
 
-/// Whether a recipe keeps all limits. Else the answer is the lowest limit that it breaks.
+/// Checks that a recipe keeps all limits. The error is the lowest limit that it breaks.
 pub fn admits(grid: &Grid, limits: &Limits, steps: &Steps) -> Result<(), LimitNo>
     requires fit { FitGrid grid.now (limits_view limits.now) }
     requires recipe { IsRecipe grid.now steps.now.items }
@@ -92,8 +92,8 @@ fn excludes_range(grid: &Grid, limits: &Limits, low: &Steps, high: &Steps) -> bo
     any_outside(grid.dyes.as_slice(), least.as_slice(), most.as_slice())
 }
 
-/// Whether the limit of this number excludes all recipes from `low` to `high`. There is none of a
-/// number outside 1 to 5.
+/// Whether the limit of this number excludes all recipes from `low` to `high`. A number outside 1
+/// to 5 is that of no limit and excludes none.
 pub fn excludes(grid: &Grid, limits: &Limits, limit: u8, low: &Steps, high: &Steps) -> bool
     requires fit { FitGrid grid.now (limits_view limits.now) }
     requires low { IsRecipe grid.now low.now.items }

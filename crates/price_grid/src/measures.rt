@@ -1,4 +1,4 @@
-//! What the limits measure of the steps of a recipe.
+//! The values of a recipe that the limits are about.
 
 ghost use Rattle.std.specs.Prelude.{◌≡◌, ◌≤◌, ◌<◌, ◌-◌, ℕ, length, All, nat_lt, slice_index};
 ghost use Rattle.std.specs.List.{AllZip, count_by, list_any};
@@ -8,7 +8,7 @@ ghost use Rattle.price_grid.specs.Limits.{any_outside, dyes_used, has_both, is_a
 use crate::dye_cost::DyeCost;
 use crate::grid::Steps;
 
-/// The steps of a recipe with those in the bath.
+/// The steps of a recipe plus those in the bath.
 pub(crate) fn with_bath(bath: &[u16], steps: &[u16]) -> Steps
     requires lengths { length steps.now ≡ length bath.now }
     requires few { length bath.now ≤ 12 }
@@ -23,8 +23,8 @@ pub(crate) fn with_bath(bath: &[u16], steps: &[u16]) -> Steps
     sums
 }
 
-/// Whether all numbers of steps from `low` to `high` are above the most of the dye, or all are
-/// above 0 and below its least.
+/// Whether all numbers of steps from `low` to `high` are above the most steps of the dye, or all
+/// are above 0 and below its fewest.
 fn is_outside(dye: &DyeCost, low: u16, high: u16) -> bool
     ensures { result ≡ is_outside dye.now low high }
 {
@@ -45,7 +45,7 @@ pub(crate) fn any_outside(dyes: &[DyeCost], low: &[u16], high: &[u16]) -> bool
     false
 }
 
-/// How many dyes there are any steps of.
+/// How many dyes have any steps.
 pub(crate) fn dyes_used(steps: &[u16]) -> usize
     ensures { result ≡ dyes_used steps.now }
 {

@@ -9,7 +9,7 @@ use crate::dye_cost::DyeCost;
 use crate::grid::{Grid, Steps, copy_of};
 use crate::order::Key;
 
-/// What so many steps of one dye cost.
+/// What this many steps of one dye cost.
 fn cost_of_dye(dye: &DyeCost, steps: u16) -> u64
     requires range { IsDyeCost dye.now }
     requires steps { steps ≤ dye.now.most }
@@ -36,7 +36,7 @@ fn cost_of_steps(dyes: &[DyeCost], steps: &[u16]) -> u64
 }
 
 /// The cost of a recipe, in the cost units of the prices: the price of the units of each dye, and
-/// the fee of each dye of which there is any step.
+/// the fee of each dye that has any steps.
 pub fn cost(grid: &Grid, steps: &Steps) -> u64
     requires { IsRecipe grid.now steps.now.items }
     ensures is { result ≡ cost_of grid.now steps.now.items }

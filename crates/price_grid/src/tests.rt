@@ -45,7 +45,7 @@ fn reads_words(rt: HostRuntime) -> Result<(), Fail> {
     Ok(())
 }
 
-// Limits that forbid nothing but what their arguments say.
+// Limits that forbid only what the arguments say.
 fn limits(
     grid: &Grid,
     max_dyes: u8,

@@ -1,4 +1,4 @@
-//! Recipes in a word of the command line.
+//! Recipes as words of the command line.
 
 ghost use Rattle.std.specs.Prelude.{◌≡◌, ◌<◌, ◌≤◌, ◌∷◌, List, length, None, IsNone, IfSome, option_map};
 ghost use Rattle.std.specs.List.{position, slice_split};
@@ -82,8 +82,8 @@ fn steps_of_word(dyes: &[DyeCost], word: &[u8]) -> Option<Steps>
     }
 }
 
-/// The recipe that a word spells: a number of one to four digits for each dye, each up to the most
-/// of its dye, with a comma between each two. `None` where it spells none.
+/// The recipe that a word spells: for each dye a number of one to four digits, up to the most steps
+/// of the dye, with commas between the numbers. `None` where it spells none.
 pub fn read_steps(grid: &Grid, word: &[u8]) -> Option<Steps>
     ensures is { option_map (λ steps. steps.items) result ≡ steps_of_word grid.now word.now }
     ensures recipe { IfSome result (λ steps. IsRecipe grid.now steps.items) }

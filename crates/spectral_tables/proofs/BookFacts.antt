@@ -1,4 +1,4 @@
--- What a book has under a name.
+-- The curve of a book under a name.
 use Rattle.std.proofs.Common.{◌≡◌, ℕ, cond, List, [], ◌∷◌, All, Option, Some, None, refl, sym, ap, subst, Bool, true, false, Bor}
 use Rattle.std.specs.Global.{Vec}
 use Rattle.std.specs.Prelude.{IfSome}

@@ -65,7 +65,7 @@ holds-book rows names i book nonempty le distinct h =
       equal = same_count (length rows) book h.equal;
     }
 
--- a name that the book has not goes last
+-- a name that the book does not have yet is inserted at its end
 insert-last : (entries : List (Vec ℕ × List ℕ)) (name : Vec ℕ) (curve : List ℕ) → list_any (bytes_eq name.items) (keys_of (book_of entries)) ≡ false
     → book_of (insert_entry (λ x y. bytes_eq x.items y.items) entries name curve) ≡ book_of entries ++ (name.items, curve) ∷ []
 insert-last [] name curve h = refl

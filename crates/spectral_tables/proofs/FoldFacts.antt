@@ -1,4 +1,4 @@
--- Folded weights have one triple a wavelength, and no column's magnitudes add up to more than before.
+-- Folded weights have one triple for each wavelength, and the magnitudes of no column add up to more than before.
 use Rattle.std.proofs.Common.{◌≡◌, ◌+◌, ◌*◌, ◌≤◌, ◌<◌, ℕ, zero, suc, ℤ, pos, negsuc, ◌+ℤ◌, Bool, true, false, Ok, List, [], ◌∷◌, ◌++◌, length, take, drop, All, refl, sym, ap, ◌∙◌, leb-true, arith}
 use Rattle.std.specs.Prelude.{unsigned_abs, sum_by, IsTrue}
 use Rattle.std.proofs.lemmas.Int.{ints}
@@ -50,7 +50,7 @@ magnitude_sum-ends column low high middle =
     let inner : magnitude_sum column middle ≡ sum_by magnitude middle = refl in
     omega (arith, front, back, none, inner, sum_by-append magnitude middle (high ∷ []))
 
--- folding makes the sum of the magnitudes of no column greater
+-- folding does not increase the sum of the magnitudes of any column
 pub magnitude_sum-fold_of : (column first : ℕ) (triples : List Triple) → column < 3 → magnitude_sum column (fold_of first triples) ≤ magnitude_sum column triples
 unfolding fold_of
 magnitude_sum-fold_of column first triples lt =
@@ -90,7 +90,7 @@ ensured : (row column : ℕ) (rule : TableRule) (b : Bool) (u : Unit {0}) → en
 ensured row column rule true u e = refl
 ensured row column rule false u e = absurd cc
 
--- a column that was found balanced, once it is folded
+-- a column that is balanced stays so after folding
 balanced : (rows : Rows) (white : Triple) (column : ℕ) (u : Unit {0}) → column < 3 → IsWhite white → ensure_balance rows white column ≡ Ok u → IsBalanced (record { weights = fold_of rows.first rows.triples; white = white }) column
 balanced rows white column u lt is_white e =
     let passed = leb-true (magnitude_sum column rows.triples) (2 * unsigned_abs (at_column column white)) (ensured (following_row rows) (column + 2) Unbalanced _ u e) in

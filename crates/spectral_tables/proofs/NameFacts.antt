@@ -8,7 +8,7 @@ use Rattle.spectral_tables.specs.declared.fault.TableRule.TheVariants.{DoubleNam
 use Rattle.spectral_tables.specs.Faults.{◌>>=◌, ◌>>◌, ensure, each}
 use Rattle.spectral_tables.specs.CurveFile.{next_different}
 
--- a test of what references point to
+-- a test of references is that of the values that they refer to
 pub list_any_now : (name : List ℕ) (names : List (Bor (List ℕ))) → list_any (λ n. bytes_eq name n.now) names ≡ list_any (bytes_eq name) (map (λ n. n.now) names)
 list_any_now name [] = refl
 list_any_now name (n ∷ ns) = ap (λ b. bytes_eq name n.now || b) (list_any_now name ns)

@@ -1,4 +1,4 @@
--- The records that were read in turn are the records of the text, and none has more fields than the text has room for.
+-- The records that are read in turn are the records of the text, and none has more fields than the text has bytes, plus one.
 use Rattle.std.proofs.Common.{◌≡◌, ◌+◌, ◌≤◌, ◌<◌, ◌||◌, ◌==◌, ℕ, zero, suc, Bool, true, false, if◌then◌else◌, List, [], ◌∷◌, ◌++◌, length, get_or, take, Option, Some, None, map, refl, sym, ap, subst, ◌∙◌, arith}
 use Rattle.std.proofs.lemmas.List.{length-append, take_all}
 use Rattle.std.proofs.lemmas.Bool.{true≢false}
@@ -54,7 +54,7 @@ step_ends st.AfterQuote c = either (c == 34) _ _ (goes_on st.InQuoted act.Copy r
 step_ends st.InComment c = either (c == 10) _ _ (goes_on st.StartRecord act.Skip refl) (goes_on st.InComment act.Skip refl)
 step_ends st.AfterCr c = either (c == 10) _ _ (goes_on st.StartRecord act.Skip refl) (start_record_ends c)
 
--- what a record that was read leaves
+-- after a record is read: the state is between two records, and its fields and the bytes left are bounded
 record Leaves (s : State) (before : List (List ℕ)) (xs : List ℕ) (p : Read) : Type 0 where
   fields : length p.0 + length p.2 ≤ length before + length xs + 1
   between : IsBetween p.1
@@ -109,7 +109,7 @@ pub records-all : (xs : List ℕ) (rows : List (List (List ℕ))) (s2 : State) (
     → records default_config xs ≡ rows
 records-all xs rows s2 ys h none = records_are (length xs + 1) st.StartRecord xs rows s2 ys (omega arith) refl h none
 
--- no record has more fields than bytes and one
+-- no record has more fields than the text has bytes, plus one
 pub fields_fit : (rows : List (List (List ℕ))) (s : State) (xs : List ℕ) (s2 : State) (ys : List ℕ) → Reached default_config s xs rows s2 ys
     → (k : ℕ) → k < length rows → length (get_or rows k []) ≤ length xs + 1
 unfolding Reached
@@ -119,7 +119,7 @@ fields_fit (r ∷ rows) s xs s2 ys h (suc k) lt =
     let left = read_leaves xs s [] [] h.0 h.1 in
     omega (arith, left.no_longer, fields_fit rows h.0.1 h.0.2 s2 ys h.3 k (omega arith))
 
--- a byte order mark that is taken off leaves no more bytes
+-- removing a byte order mark adds no bytes
 pub length-strip_bom-le : (bytes : List ℕ) → length (strip_bom bytes) ≤ length bytes
 unfolding strip_bom
 length-strip_bom-le [] = omega arith
@@ -144,7 +144,7 @@ fields-end [] i e = take_all i [] (omega arith)
 fields-end (x ∷ xs) zero e = absurd cc
 fields-end (x ∷ xs) (suc i) e = ap (λ (ys : List (List ℕ)). x ∷ ys) (fields-end xs i e)
 
--- why a read of a flexible reader over bytes may fail
+-- the errors that a flexible reader over bytes may return
 pub can_refuse : {R : Type 0} (rem : R → Option (List ℕ)) (old new : Reader R) (why : ErrorKind) → old.flexible ≡ true → ExplainsRead rem old new false why → CanRefuseBytes why
 can_refuse rem old new OutOfMemory flexible h = tt
 can_refuse rem old new (Io e) flexible h = tt

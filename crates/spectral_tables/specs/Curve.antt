@@ -5,11 +5,11 @@ use Rattle.std.specs.Prelude.{◌≡◌, ◌≤◌, ℕ, List, All, length, repl
 abbrev pub IsReflectance : ℕ → Type 0
 IsReflectance m = (100 ≤ m) × (m ≤ 1000000)
 
--- how many wavelengths there may be: those of 400 to 700 nm by 10
+-- how many wavelengths there must be: those from 400 to 700 nm in steps of 10 nm
 abbrev pub IsWaveCount : ℕ → Type 0
 IsWaveCount n = n ≡ 31
 
--- what a curve keeps
+-- the invariant of a curve
 pub record IsCurve (reflectances : List ℕ) : Type 0 where
   pub count : IsWaveCount (length reflectances)
   pub range : All IsReflectance reflectances

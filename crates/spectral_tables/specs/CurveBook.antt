@@ -10,7 +10,7 @@ use Rattle.spectral_tables.specs.Curve.{IsCurve}
 abbrev pub Book : Type 0
 Book = List (List ℕ × List ℕ)
 
--- the curve of a name, where one has it
+-- the curve under a name, if there is one
 abbrev pub curve_named : List ℕ → Book → Option (List ℕ)
 curve_named name book = lookup (bytes_eq name) book
 
@@ -19,13 +19,13 @@ abbrev pub wave_count : Book → ℕ
 wave_count [] = 0
 wave_count (first ∷ _) = length first.1
 
--- what a book keeps
+-- the invariant of a book of curves
 pub record IsBook (book : Book) : Type 0 where
   pub some : 1 ≤ length book
   pub distinct : IsDistinct bytes_eq (keys_of book)
   pub curves : All (λ e. IsCurve e.1) book
   pub equal : All (λ e. length e.1 ≡ wave_count book) book
 
--- the book that is kept under owned names
+-- the book of a list with owned names
 abbrev pub book_of : List (Vec ℕ × List ℕ) → Book
 book_of entries = map (λ e. (e.0.items, e.1)) entries

@@ -5,7 +5,7 @@ use Rattle.spectral_tables.specs.declared.fault.TableFault.{TableFault}
 use Rattle.spectral_tables.specs.declared.fault.TableError.{TableError}
 use Rattle.spectral_tables.specs.declared.fault.TableError.TheVariants as errors
 
--- a step, and then the next one with its value
+-- a step, and then the next step with its value
 infixl 10 ◌>>=◌
 abbrev pub ◌>>=◌ : {A B : Type 0} → Result A TableFault → (A → Result B TableFault) → Result B TableFault
 (Ok x) >>= next = next x
@@ -25,23 +25,23 @@ unless_fault test value = test >> Ok value
 abbrev pub fault : ℕ → ℕ → TableRule → TableFault
 fault row column rule = record { row = row; column = column; rule = rule }
 
--- a test that holds, or else the fault
+-- success where a test holds, and else the fault
 abbrev pub ensure : ℕ → ℕ → TableRule → Bool → Result (Unit {0}) TableFault
 ensure row column rule holds = if holds then Ok tt else Err (fault row column rule)
 
--- a value that is there, or else the fault
+-- the value where there is one, and else the fault
 abbrev pub or_fault : {A : Type 0} → ℕ → ℕ → TableRule → Option A → Result A TableFault
 or_fault row column rule (Some x) = Ok x
 or_fault row column rule None = Err (fault row column rule)
 
--- The items in turn, up to the first fault: the reader of an item is given what those before it gave.
+-- The items read in turn, up to the first fault. The reader of an item is passed the values of the items before it.
 abbrev pub each : {A B : Type 0} → (List A → B → Result A TableFault) → List A → List B → Result (List A) TableFault
 each read before [] = Ok before
 each read before (item ∷ items) = do
   value ← read before item
   each read (before ++ value ∷ []) items
 
--- What a function returned, seen by `view`, is what reading gives, unless memory ran out.
+-- The result of a function, seen through `view`, is that of the definition, unless memory ran out.
 abbrev pub Fails : {Y : Type 0} → TableError → Result Y TableFault → Type 0
 Fails errors.Memory read = Unit {0}
 Fails (errors.Fault f) read = read ≡ Err f

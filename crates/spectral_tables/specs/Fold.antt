@@ -1,8 +1,8 @@
--- Weights outside 400 to 700 nm count to the weight at the nearer end.
+-- Weights outside 400 to 700 nm are added to the weight at the nearer end.
 use Rattle.std.specs.Prelude.{◌≡◌, ◌+◌, ◌-◌, ◌*◌, ◌/◌, ◌%◌, ◌≤◌, ℕ, List, [], ◌∷◌, ◌++◌, take, drop}
 use Rattle.spectral_tables.specs.WeightTable.{Triple, total_of}
 
--- a run of rows by 10 nm from `first` on that lies within 300 to 830 nm and covers 400 to 700 nm
+-- `count` rows from the wavelength `first` on, in steps of 10 nm, lie within 300 to 830 nm and cover 400 to 700 nm
 pub record Covers (first count : ℕ) : Type 0 where
   pub tens : first % 10 ≡ 0
   pub from : 300 ≤ first
@@ -10,7 +10,7 @@ pub record Covers (first count : ℕ) : Type 0 where
   pub end : 710 ≤ first + 10 * count
   pub last : first + 10 * count ≤ 840
 
--- how many rows stand before that of 400 nm
+-- how many rows come before that of 400 nm
 abbrev pub rows_below : ℕ → ℕ
 rows_below first = (400 - first) / 10
 

@@ -1,21 +1,21 @@
--- The laws of spectra: they keep enclosing where the scale grows from n to m * n, and lie in their range.
+-- The laws of spectra: they keep enclosing where the scale grows from n to m * n, and they lie in their range.
 use Rattle.std.specs.Prelude.{◌*◌, ℕ, List, [], ◌∷◌}
 use Rattle.interval_specs.specs.Ends.{Ends}
 use Rattle.interval_specs.specs.Encloses.{Encloses}
 use Rattle.spectral_tables.specs.Curve.{IsCurve}
 use Rattle.spectral_tables.specs.Spectrum.{IsSpectrum, spectrum_at}
 
--- each wave of a spectrum encloses that of a finer one
+-- a spectrum encloses a finer one at each wavelength
 abbrev pub EnclosesWaves : ℕ → List Ends → List Ends → Type 0
 EnclosesWaves m [] [] = Unit {0}
 EnclosesWaves m [] (b ∷ bs) = ⊥
 EnclosesWaves m (a ∷ as') [] = ⊥
 EnclosesWaves m (a ∷ as') (b ∷ bs) = Encloses m a b × EnclosesWaves m as' bs
 
--- of the spectrum of a measured curve
+-- the spectrum of a measured curve encloses the one at each finer scale
 abbrev pub SpectrumEncloses : Type 0
 SpectrumEncloses = (n m : ℕ) (curve : List ℕ) → EnclosesWaves m (spectrum_at n curve) (spectrum_at (m * n) curve)
 
--- of the spectrum of a measured curve: each reflectance lies from 0 to 1
+-- each reflectance in the spectrum of a measured curve lies from 0 to 1
 abbrev pub SpectrumInRange : Type 0
 SpectrumInRange = (n : ℕ) (curve : List ℕ) → IsCurve curve → IsSpectrum n (spectrum_at n curve)

@@ -10,7 +10,7 @@ use Rattle.spectral_tables.specs.Trim.{trimmed}
 abbrev pub Table : Type 0
 Table = List (List (List ℕ))
 
--- One byte order mark is taken off, and `csv` takes one more off what it is given.
+-- The records of a file. One byte order mark is removed here, and `csv` removes another one if there is one.
 unfoldable pub records_of : List ℕ → Table
 records_of bytes = records default_config (strip_bom (strip_bom bytes))
 
@@ -28,7 +28,7 @@ abbrev pub first_field : List (List ℕ) → List ℕ
 first_field [] = []
 first_field (first ∷ _) = first
 
--- an error that a flexible reader over bytes may give: of memory, or of what it reads from
+-- an error that a flexible reader over bytes may return: out of memory, or an error of its source
 abbrev pub CanRefuseBytes : ErrorKind → Type 0
 CanRefuseBytes OutOfMemory = ⊤
 CanRefuseBytes (Io e) = ⊤

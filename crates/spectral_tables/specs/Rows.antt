@@ -1,4 +1,4 @@
--- The rows of a curve file, once they were read.
+-- The rows of a curve file, as they are read.
 use Rattle.std.specs.Prelude.{◌≡◌, ◌+◌, ℕ, List, All, length, map}
 use Rattle.std.specs.Global.{Vec}
 use Rattle.spectral_tables.specs.Curve.{IsReflectance}

@@ -5,7 +5,7 @@ use Rattle.interval_specs.specs.Operations.{ratio_at}
 use Rattle.interval_specs.specs.Ranges.{UpTo}
 use Rattle.spectral_tables.specs.Curve.{IsWaveCount}
 
--- what a spectrum keeps: no reflectance is below 0 or above 1
+-- the invariant of a spectrum: no reflectance is below 0 or above 1
 pub record IsSpectrum (n : ℕ) (intervals : List Ends) : Type 0 where
   pub count : IsWaveCount (length intervals)
   pub range : All (UpTo n) intervals
@@ -14,6 +14,6 @@ pub record IsSpectrum (n : ℕ) (intervals : List Ends) : Type 0 where
 unfoldable pub spectrum_at : ℕ → List ℕ → List Ends
 spectrum_at n curve = map (λ millionths. ratio_at n (pos millionths) (10 ^ 6)) curve
 
--- the interval whose ends are stored
+-- the interval that has these stored ends
 abbrev pub ends_of : ℕ × ℕ → Ends
 ends_of ends = record { lo = pos ends.0; hi = pos ends.1 }

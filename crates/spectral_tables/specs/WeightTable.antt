@@ -2,7 +2,7 @@
 use Rattle.std.specs.Prelude.{◌≡◌, ◌*◌, ◌<◌, ◌≤◌, ◌^◌, ℕ, ℤ, pos, ◌+ℤ◌, ◌<ℤ◌, List, [], ◌∷◌, All, length, slice_index_or, sum_by, unsigned_abs}
 use Rattle.spectral_tables.specs.Curve.{IsWaveCount}
 
--- the numbers for X, Y and Z, each in 0.00001
+-- the numbers for X, Y and Z, in units of 0.00001
 abbrev pub Triple : Type 0
 Triple = List ℤ
 
@@ -38,13 +38,13 @@ pub record IsBalanced (w : WeightTable) (column : ℕ) : Type 0 where
   pub small : unsigned_abs (at_column column w.white) ≤ 10 ^ 8
   pub balanced : magnitude_sum column w.weights ≤ 2 * unsigned_abs (at_column column w.white)
 
--- what weights keep
+-- the invariant of weights
 pub record IsWeightTable (w : WeightTable) : Type 0 where
   pub count : IsWaveCount (length w.weights)
   pub triples : All (λ triple. length triple ≡ 3) w.weights
   pub white : length w.white ≡ 3
   pub columns : (column : ℕ) → column < 3 → IsBalanced w column
 
--- a list has an item for each wavelength of the weights, given what weights keep
+-- a list has an item for each wavelength of the weights, provided that these satisfy their invariant
 abbrev pub HasItemEachWave : {A : Type 0} → WeightTable → List A → Type 0
 HasItemEachWave w items = IsWeightTable w → length items ≡ length w.weights

@@ -7,11 +7,11 @@ use arrayvec::ArrayVec;
 use std::alloc::AllocError;
 use std::marker::Model;
 
-/// How many wavelengths a curve has: 400 to 700 nm by 10.
+/// How many wavelengths a curve has: those from 400 to 700 nm in steps of 10 nm.
 pub(crate) const WAVES: usize = 31;
 
-/// The reflectances of one cloth in millionths, by rising wavelength: 31 of them, for 400 to 700 nm
-/// by 10.
+/// The 31 reflectances of one cloth in millionths, by rising wavelength: from 400 to 700 nm in
+/// steps of 10 nm.
 ///
 /// A `wave` is the index of a wavelength.
 #[derive(Debug, Drop)]

@@ -13,7 +13,7 @@ use arrayvec::ArrayVec;
 use indexmap::IndexMap;
 use std::alloc::{AllocError, Global};
 
-/// The curve of a column: the value of each row there.
+/// The curve of a column: the value of each row in this column.
 fn curve_of(rows: &[Vec<u32>], column: usize) -> Curve
     requires waves { IsWaveCount (length rows.now) }
     requires has_column { All (λ row. column < length row.items) rows.now }
@@ -28,7 +28,7 @@ fn curve_of(rows: &[Vec<u32>], column: usize) -> Curve
     Curve::of(values.as_slice())
 }
 
-/// The curves under distinct names, one a column.
+/// The curves under distinct names, one for each column.
 pub(crate) fn book_of(
     alloc: Global,
     names: &[&[u8]],

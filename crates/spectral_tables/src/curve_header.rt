@@ -17,7 +17,7 @@ fn is_curve_header(fields: &[&[u8]]) -> bool
     begins_with(fields, b"nm") && 2 <= fields.len() && fields.len() <= 65
 }
 
-/// The cell after so many names of the header.
+/// The cell of the header after this many names.
 fn cell_after(names: usize) -> Cell
     requires { names < 65 }
     ensures row { result.row ≡ 1 }

@@ -41,7 +41,7 @@ fn values(alloc: Global, row: u32, fields: &[&[u8]]) -> Result<Vec<u32>, TableEr
     Ok(values)
 }
 
-/// The record after so many rows.
+/// The reflectances of the record for the wavelength of index `wave`.
 #[tactic(auto, unfolding(crate::specs::CurveFile::row_of))]
 fn row(alloc: Global, columns: usize, wave: usize, fields: &[&[u8]]) -> Result<Vec<u32>, TableError>
     requires some { 0 < columns }
@@ -87,7 +87,7 @@ fn next_row(
     row(alloc, columns, wave, &fields)
 }
 
-/// The rows of all wavelengths.
+/// The reflectances of the records of all wavelengths.
 #[tactic(auto, unfolding(crate::specs::CurveFile::rows_of))]
 pub(crate) fn rows_of(
     alloc: Global,

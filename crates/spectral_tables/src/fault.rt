@@ -9,19 +9,19 @@ use thiserror::Error;
 /// The rule that a table breaks.
 #[derive(Clone, Copy, Debug, PartialEq, Eq)]
 pub enum TableRule {
-    /// The first record is no header.
+    /// The first record is not a header.
     NoHeader,
-    /// A record of the wavelength that is due is missing, or another record stands there.
+    /// The record of the wavelength that must follow is missing, or another record is in its stead.
     BadWavelength,
-    /// A record has another number of fields than the header.
+    /// A record has a number of fields other than the header.
     WrongCount,
-    /// A field is no decimal number with the decimals that it may have.
+    /// A field is not a decimal number with at most the decimals that it may have.
     BadNumber,
     /// A number is below or above its range.
     OutOfRange,
-    /// Two curves have one name.
+    /// Two curves have the same name.
     DoubleName,
-    /// The records end before the white one.
+    /// The records end before a white record.
     NoWhite,
     /// A white value is not above 0.
     WhiteNotPositive,
@@ -75,7 +75,7 @@ impl<T: Drop> From<AllocFailed<T>> for TableError {
     }
 }
 
-/// A field of a table: its record and its number in that, each counted from 1.
+/// A field of a table, by its record and its number in the record, each counted from 1.
 #[derive(Clone, Copy)]
 pub(crate) struct Cell {
     pub(crate) row: u32,

@@ -1,4 +1,4 @@
-//! Weights outside 400 to 700 nm.
+//! Adding the weights outside 400 to 700 nm to those at the nearer end.
 
 ghost use Rattle.std.specs.Prelude.{◌≡◌, ◌*◌, ◌≤◌, ◌<◌, ◌^◌, length, All, unsigned_abs};
 ghost use Rattle.spectral_tables.specs.WeightTable.{IsTriple, column_sum, total_of};
@@ -33,8 +33,8 @@ fn total(triples: &[[i64; 3]]) -> [i64; 3]
     ]
 }
 
-/// The weights at 400 to 700 nm by 10, made of those of a run by 10 nm from `first` on:
-/// what lies below 400 nm is added to the first, and what lies above 700 nm to the last.
+/// The weights from 400 to 700 nm in steps of 10 nm, from weights that begin at `first` with the
+/// same steps: those below 400 nm are added to the first, and those above 700 nm to the last.
 #[tactic(auto, unfolding(crate::specs::Fold::fold_of))]
 pub fn fold(first: u16, triples: &[[i64; 3]]) -> [[i64; 3]; 31]
     requires run { Covers first (length triples.now) }

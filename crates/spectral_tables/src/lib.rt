@@ -1,4 +1,4 @@
-//! Curve files and weights files: tables of comma-separated fields, read to the first fault.
+//! Curve files and weights files: tables of comma-separated fields, read up to the first fault.
 #![tactic(auto)]
 
 mod curve;

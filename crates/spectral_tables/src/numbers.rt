@@ -17,7 +17,7 @@ pub(crate) fn is_wavelength(field: &[u8], nm: u32) -> bool
     }
 }
 
-/// The number of a field, counted in its last decimal.
+/// The number that a field writes, counted in units of its last decimal place.
 pub(crate) fn number(field: &[u8], decimals: u8) -> Option<i64>
     requires { decimals ≤ 6 }
     ensures { result ≡ number_read (decimal_of decimals field.now) }
@@ -25,7 +25,7 @@ pub(crate) fn number(field: &[u8], decimals: u8) -> Option<i64>
     read_decimal(field, decimals).ok()
 }
 
-/// The number, where it lies in the range.
+/// The number, if it lies in the range.
 pub(crate) fn natural_in(number: i64, low: u32, high: u32) -> Option<u32>
     ensures is { result ≡ natural_in low high number }
     ensures range { IfSome result (λ n. (low ≤ n) × (n ≤ high)) }

@@ -19,9 +19,9 @@ fn without_mark(bytes: &[u8]) -> &[u8]
     }
 }
 
-/// The one error of a flexible reader over bytes: memory ran out. Its records may have any length,
-/// and their bytes need be no text. Whether the reader underneath fails `csv` leaves open; one over
-/// bytes never does.
+/// The only error of a flexible reader over bytes: memory has run out. Such a reader accepts
+/// records of any length and bytes that are no UTF-8. The contract of `csv` also allows an error of
+/// the underlying source, but a slice of bytes has none.
 fn refusal(kind: &ErrorKind) -> AllocError
     requires { CanRefuseBytes kind.now }
 {
@@ -31,7 +31,7 @@ fn refusal(kind: &ErrorKind) -> AllocError
     }
 }
 
-/// The records of the bytes, each with its fields as they stand.
+/// The records of the bytes, each with its fields as they are written.
 pub(crate) fn records_of(alloc: Global, bytes: &[u8]) -> Result<Vec<ByteRecord>, AllocError>
     ensures records { IfOk result (λ v. map fields_of v.items ≡ records_of bytes.now) }
     ensures fits { IfOk result (λ v.

@@ -9,7 +9,7 @@ use crate::numbers::{natural_in, number};
 use std::alloc::{AllocError, Global};
 use std::marker::Model;
 
-/// The rows that were read so far: the first wavelength in nanometres, and the weights of each row.
+/// The rows that have been read: the first wavelength in nanometres, and the weights of each row.
 #[derive(Drop)]
 pub(crate) struct Run {
     first: u16,
@@ -50,7 +50,7 @@ impl Run {
         self.triples.as_slice()
     }
 
-    /// The number of the record after the rows.
+    /// The number of the record that follows the rows.
     pub(crate) fn following_row(&self) -> u32
         ensures is { result ≡ following_row self.now }
         ensures few { result ≤ 60 }
@@ -58,7 +58,7 @@ impl Run {
         self.triples.len() as u32 + 2
     }
 
-    /// The wavelength after the last row.
+    /// The wavelength that follows the last row.
     fn following_wavelength(&self) -> u32
         ensures is { result ≡ following_wavelength self.now }
         ensures held { IsRun self.now }
@@ -66,13 +66,14 @@ impl Run {
         u32::from(self.first) + 10 * self.triples.len() as u32
     }
 
-    /// Whether a row has 700 nm or more.
+    /// Whether the rows reach 700 nm.
     pub(crate) fn reaches_end(&self) -> bool
         ensures { result ≡ reaches_end self.now }
     {
         710 <= self.following_wavelength()
     }
 
+    /// Whether the next row may have this wavelength.
     fn is_due(&self, nm: u32) -> bool
         ensures { result ≡ is_due self.now nm }
     {
@@ -83,7 +84,7 @@ impl Run {
         }
     }
 
-    /// The wavelength of a field, where it is the one that the next row has.
+    /// The wavelength that a field writes, where the next row may have it.
     #[tactic(auto, unfolding(crate::specs::Run::due_wavelength))]
     pub(crate) fn due_wavelength(&self, field: &[u8]) -> Option<u32>
         ensures is { result ≡ due_wavelength self.now field.now }
@@ -93,7 +94,7 @@ impl Run {
         if self.is_due(nm) { Some(nm) } else { None }
     }
 
-    /// The rows and one more.
+    /// The rows with one more.
     pub(crate) fn with(self, nm: u32, triple: [i64; 3]) -> Result<Run, AllocError>
         requires range { (300 ≤ nm) × (nm ≤ 830) }
         requires due { IsTrue (is_due self nm) }

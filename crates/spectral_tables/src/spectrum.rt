@@ -10,8 +10,8 @@ use arrayvec::ArrayVec;
 use fix_bounds::{Iv, Scale};
 use std::marker::{Model, PhantomData};
 
-/// A reflectance for each wavelength from 400 to 700 nm by 10, as an interval from 0 to 1 at the
-/// scale `S`. A `wave` is the index of a wavelength.
+/// A reflectance for each wavelength from 400 to 700 nm in steps of 10 nm, as an interval within 0
+/// to 1 at the scale `S`. A `wave` is the index of a wavelength.
 #[derive(Drop)]
 pub struct Spectrum<S: Scale> {
     ends: ArrayVec<(u64, u64), WAVES>,
@@ -30,7 +30,7 @@ impl<S: Scale> Model for Spectrum<S> {
     ghost invariant = { λ s. IsSpectrum S.unit (map ends_of s.ends.items) };
 }
 
-/// The ends of an interval from 0 to 1, in parts of the scale.
+/// The ends of an interval within 0 to 1, in parts of the scale, as they are stored.
 fn stored_ends<S: Scale>(interval: Iv<S>) -> (u64, u64)
     requires { UpTo S.unit interval }
     ensures { ends_of result ≡ interval }
@@ -38,7 +38,7 @@ fn stored_ends<S: Scale>(interval: Iv<S>) -> (u64, u64)
     (interval.lo() as u64, interval.hi() as u64)
 }
 
-/// The interval of stored ends.
+/// The interval that has these stored ends.
 fn interval_of_ends<S: Scale>(ends: (u64, u64)) -> Iv<S>
     requires { UpTo S.unit (ends_of ends) }
     ensures { result ≡ ends_of ends }
@@ -82,7 +82,7 @@ impl<S: Scale> Spectrum<S> {
     }
 }
 
-/// The reflectance of so many millionths.
+/// The reflectance of this many millionths, as an interval.
 fn reflectance<S: Scale>(millionths: u32) -> Iv<S>
     requires { millionths ≤ 1000000 }
     ensures is { result ≡ ratio_at S.unit (pos millionths) (10 ^ 6) }

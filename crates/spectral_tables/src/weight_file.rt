@@ -17,7 +17,7 @@ use crate::weights::Weights;
 use csv::ByteRecord;
 use std::alloc::Global;
 
-/// The sum of the magnitudes of a column.
+/// The sum of the magnitudes of the weights in a column.
 #[tactic(auto, unfolding(crate::specs::WeightTable::magnitude_sum))]
 fn magnitude_sum(triples: &[[i64; 3]], column: usize) -> u64
     requires column { column < 3 }
@@ -50,7 +50,7 @@ fn ensure_balance(run: &Run, white: &[i64; 3], column: usize) -> Result<(), Tabl
     )
 }
 
-/// The weights at the white record, with `after` records after it.
+/// The weights of a file whose white record has been read, where `after` are the records after it.
 #[tactic(auto, unfolding(crate::specs::WeightFile::closed_of))]
 fn closed(run: &Run, white: [i64; 3], after: &[ByteRecord]) -> Result<Weights, TableFault>
     requires end { IsTrue (reaches_end run.now) }
@@ -71,7 +71,7 @@ fn closed(run: &Run, white: [i64; 3], after: &[ByteRecord]) -> Result<Weights, T
     })
 }
 
-/// The weights after the header.
+/// The weights of the records after the header.
 #[tactic(auto, unfolding(crate::specs::WeightFile::weights_from))]
 fn weights_from(alloc: Global, lines: &[ByteRecord]) -> Result<Weights, TableError>
     requires { All (λ r. length (stored_fields r) < 2 ^ 32 - 2) lines.now }
@@ -116,11 +116,12 @@ fn weights_of(alloc: Global, records: &[ByteRecord]) -> Result<Weights, TableErr
 /// The weights of a file of at most 1,000,000 bytes.
 ///
 /// The first record has four fields, `nm` and any three. Each further record is a wavelength and a
-/// weight of up to 1,000 in magnitude for X, Y and Z: the first wavelength lies in 300 to 400 nm,
-/// each further one 10 nm on, and the last in 700 to 830 nm. The last record is `white` and three
-/// values above 0. A byte order mark and spaces and tabs around a field are ignored.
+/// weight of up to 1,000 in magnitude for X, Y and Z: the first wavelength is a multiple of 10 from
+/// 300 to 400 nm, each further one is 10 nm more, and the last one is from 700 to 830 nm. The last
+/// record is `white` and three values above 0. A byte order mark and spaces and tabs around a field
+/// are ignored.
 ///
-/// The error is the first fault with its row and column, or that memory ran out.
+/// The error is the first fault with its row and column, or that memory has run out.
 pub fn read_weights(alloc: Global, bytes: &[u8]) -> Result<Weights, TableError>
     requires { length bytes.now ≤ 1000000 }
     ensures exact { Gives (λ w. w) result (weight_table_of bytes.now) }

@@ -11,7 +11,7 @@ use crate::fields::first_field;
 use crate::numbers::number;
 use crate::run::Run;
 
-/// The weight of a field, or the white value, in 0.00001.
+/// The weight that a field writes, or the white value, in units of 0.00001.
 #[tactic(auto, unfolding(crate::specs::WeightFile::weight_of))]
 fn weight(is_white: bool, cell: Cell, field: &[u8]) -> Result<i64, TableFault>
     ensures is { result ≡ weight_of is_white cell.row cell.column field.now }
@@ -38,7 +38,7 @@ fn triple(is_white: bool, row: u32, fields: &[&[u8]]) -> Result<[i64; 3], TableF
     Ok([x, y, z])
 }
 
-/// The rows with the record of the next wavelength.
+/// The rows with the record of the next wavelength added.
 #[tactic(auto, unfolding(crate::specs::WeightFile::with_row))]
 pub(crate) fn with_row(run: Run, fields: &[&[u8]]) -> Result<Run, TableError>
     requires { length fields.now ≡ 4 }
@@ -52,7 +52,7 @@ pub(crate) fn with_row(run: Run, fields: &[&[u8]]) -> Result<Run, TableError>
     Ok(run.with(nm, weights)?)
 }
 
-/// The white values, at the record after the rows.
+/// The white values, from the record that follows the rows.
 #[tactic(auto, unfolding(crate::specs::WeightFile::white_of))]
 pub(crate) fn white_of(run: &Run, fields: &[&[u8]]) -> Result<[i64; 3], TableFault>
     requires { length fields.now ≡ 4 }

@@ -7,8 +7,9 @@ use crate::curve::WAVES;
 use std::alloc::AllocError;
 use std::marker::Model;
 
-/// The weights of a light and observer for X, Y and Z, each in 0.00001: three for each wavelength
-/// from 400 to 700 nm by 10, and the values of white. A `wave` is the index of a wavelength.
+/// The weights of a light and observer for X, Y and Z, in units of 0.00001: three for each
+/// wavelength from 400 to 700 nm in steps of 10 nm, and the values of white. A `wave` is the index
+/// of a wavelength.
 #[derive(Debug, Drop)]
 pub struct Weights {
     pub(crate) weights: [[i64; 3]; WAVES],

@@ -72,7 +72,7 @@ magnitude_sum-take column triples wave =
     let magnitude = λ (t : Triple). unsigned_abs (at_column column t) in
     omega (arith, sum_by-append magnitude (take wave triples) (drop wave triples), ap (sum_by magnitude) (take-append-drop wave triples))
 
--- what a wavelength adds, and how large the sum may be by then
+-- what one wavelength adds, and a bound of the sum up to it
 pub record Step (column wave unit : ℕ) (triples : List Triple) (sum reflectance : Ends) : Type 0 where
   pub factor : magnitude_of reflectance * unsigned_abs (at_column column (get_or triples wave [])) ≤ 10 ^ 25
   pub room : magnitude_of sum + magnitude_of (multiple_of (at_column column (get_or triples wave [])) reflectance) ≤ 10 ^ 25
@@ -98,7 +98,7 @@ step column wave unit triples sum reflectance lt least total part before =
       magnitude = subst (λ k. MagnitudeUpTo k (sum_of sum (multiple_of weight reflectance))) whole both;
     }
 
--- a sum of at most twice the white value, over that value, is at most 2, and cut at 0
+-- a sum of at most twice the white value, over that value and cut at 0, is at most 3
 pub white-range : (unit total white : ℕ) (sum : Ends) → 0 < white → total ≤ 2 * white → MagnitudeUpTo (total * unit) sum → UpTo (3 * unit) (cut_low_at unit (pos 0) (fraction_of 1 white sum))
 white-range unit total white sum positive balanced magnitude =
     let twice : total * unit ≤ 2 * white * unit = mul-le-mul balanced (omega arith) in
@@ -110,7 +110,7 @@ pub magnitude-positive : (z : ℤ) → pos 0 <ℤ z → 0 < unsigned_abs z
 magnitude-positive (pos a) h = omega (arith, ints)
 magnitude-positive (negsuc a) h = absurd (omega (arith, ints))
 
--- the same under the weights that a type keeps, at a wavelength before their end
+-- the same under weights that satisfy the invariant, at one of their wavelengths
 pub step-kept : (column wave end unit : ℕ) (w : WeightTable) (sum reflectance : Ends) → IsWeightTable w → column < 3 → wave < end → end ≡ length w.weights → unit ≤ 10 ^ 12 → UpTo unit reflectance
     → MagnitudeUpTo (magnitude_sum column (take wave w.weights) * unit) sum → Step column wave unit w.weights sum reflectance
 step-kept column wave end unit w sum reflectance kept of_three lt is least part before =

@@ -1,4 +1,5 @@
--- The laws of the ratios: they keep enclosing where the scale grows from n to m * n and the spectrum narrows, and lie in their range.
+-- The laws of the ratios: they enclose those of a narrower spectrum where the scale grows from n to m * n, and they lie in
+-- their range.
 use Rattle.std.specs.Prelude.{◌*◌, ℕ, List, All}
 use Rattle.interval_specs.specs.Ends.{Ends}
 use Rattle.interval_specs.specs.Ranges.{UpTo}
@@ -7,7 +8,7 @@ use Rattle.spectral_tables.specs.WeightTable.{WeightTable, IsWeightTable}
 use Rattle.fix_bounds.specs.Ratios.{EnclosesRatios, RatioEnds}
 use Rattle.tristimulus.specs.Ratios.{ratios_at}
 
--- of the ratios, with weights of either sign and any white
+-- the ratios keep enclosing, with weights of either sign and any white
 abbrev pub RatiosEnclose : Type 0
 RatiosEnclose =
     (n m : ℕ) (spectrum finer : List Ends) (w : WeightTable) → EnclosesWaves m spectrum finer
@@ -19,6 +20,6 @@ pub record AreRatios (n : ℕ) (r : RatioEnds) : Type 0 where
   pub y : UpTo (3 * n) r.y
   pub z : UpTo (3 * n) r.z
 
--- of the ratios of reflectances from 0 to 1, under weights as a file gives them
+-- the ratios of reflectances from 0 to 1 are in range, under weights that satisfy the invariant
 abbrev pub RatiosInRange : Type 0
 RatiosInRange = (n : ℕ) (spectrum : List Ends) (w : WeightTable) → IsWeightTable w → All (UpTo n) spectrum → AreRatios n (ratios_at n spectrum w)

@@ -1,4 +1,4 @@
-//! Weighted sums of a spectrum.
+//! The tristimulus ratios: weighted sums of a spectrum, each over the value of white.
 
 ghost use Rattle.std.specs.Prelude.{◌≡◌, ◌*◌, ◌<◌, ◌≤◌, [], length, slice_index_or};
 ghost use Rattle.interval_specs.specs.Ranges.{MagnitudeUpTo, UpTo};
@@ -19,7 +19,7 @@ fn weight_at(weights: &Weights, wave: usize, column: usize) -> i64
     weights.at(wave)[column]
 }
 
-/// The sum of a column's weights times the reflectances.
+/// The sum of a column's weights, each times the reflectance at its wavelength.
 fn weighted_sum<S: Scale>(sample: &Spectrum<S>, weights: &Weights, column: usize) -> Iv<S>
     requires waves { HasItemEachWave weights.now sample.now }
     requires column { column < 3 }
@@ -34,7 +34,7 @@ fn weighted_sum<S: Scale>(sample: &Spectrum<S>, weights: &Weights, column: usize
     sum
 }
 
-/// The ratio of a column to white.
+/// The ratio of a column: its weighted sum over its value of white, and at least 0.
 #[tactic(auto, unfolding(crate::specs::Ratios::ratio_at_column))]
 fn ratio<S: Scale>(sample: &Spectrum<S>, weights: &Weights, column: usize) -> Iv<S>
     requires waves { HasItemEachWave weights.now sample.now }
@@ -47,8 +47,8 @@ fn ratio<S: Scale>(sample: &Spectrum<S>, weights: &Weights, column: usize) -> Iv
     sum.ratio_up(1, white).cut_low(0)
 }
 
-/// The tristimulus ratios X/Xn, Y/Yn and Z/Zn of a sample under the weights of a light and
-/// observer, which have as many wavelengths.
+/// The tristimulus ratios X/Xn, Y/Yn and Z/Zn of a sample under the weights of a light and observer
+/// for the same wavelengths.
 #[tactic(auto, unfolding(crate::specs::Ratios::ratios_at))]
 pub fn ratios<S: Scale>(sample: &Spectrum<S>, weights: &Weights) -> Ratios<S>
     requires { HasItemEachWave weights.now sample.now }

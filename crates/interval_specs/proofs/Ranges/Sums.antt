@@ -63,8 +63,8 @@ difference_magnitude j k a b s t =
     magnitudes : (x y : ℤ) → unsigned_abs x ≤ j → unsigned_abs y ≤ k → unsigned_abs (x -ℤ y) ≤ j + k
     magnitudes x y p q = omega (arith, ints)
 
-within : (x y : ℤ) (k : ℕ) → pos 0 ≤ℤ x → x ≤ℤ pos k → pos 0 ≤ℤ y → y ≤ℤ pos k → unsigned_abs (x -ℤ y) ≤ k
-within x y k p q u v = omega (arith, ints)
+difference_at_most : (x y : ℤ) (k : ℕ) → pos 0 ≤ℤ x → x ≤ℤ pos k → pos 0 ≤ℤ y → y ≤ℤ pos k → unsigned_abs (x -ℤ y) ≤ k
+difference_at_most x y k p q u v = omega (arith, ints)
 
 -- two numbers from 0 to k differ by at most k
 pub difference_within : (k : ℕ) (a b : Ends) → UpTo k a → UpTo k b → MagnitudeUpTo k (difference_of a b)
@@ -77,5 +77,5 @@ difference_within k a b s t =
     let bh = trans_ℤ (pos 0) b.lo b.hi t.not_negative t.ordered in
     record {
       ordered = d.ordered;
-      small = magnitude_by (a.lo -ℤ b.hi) (a.hi -ℤ b.lo) k (within a.lo b.hi k s.not_negative al bh t.below) (within a.hi b.lo k ah s.below t.not_negative bl);
+      small = magnitude_by (a.lo -ℤ b.hi) (a.hi -ℤ b.lo) k (difference_at_most a.lo b.hi k s.not_negative al bh t.below) (difference_at_most a.hi b.lo k ah s.below t.not_negative bl);
     }

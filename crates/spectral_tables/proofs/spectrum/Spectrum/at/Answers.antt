@@ -7,7 +7,7 @@ use Rattle.spectral_tables.specs.Spectrum.{IsSpectrum, ends_of}
 use Rattle.spectral_tables.proofs.SpectrumFacts.{range-at, slice_get-stored}
 use Rattle.spectral_tables.proofs.spectrum.Spectrum.at.Goals as goal
 
--- the reflectance, once the slice is that of the stored ends
+-- the reflectance, where the slice is that of the stored ends
 range : (n : ℕ) (stored slice : List (ℕ × ℕ)) (view : List Ends) (wave : ℕ) → map ends_of stored ≡ view → slice ≡ stored → IsSpectrum n (map ends_of stored) → wave < length view
     → UpTo n (ends_of (get_or slice wave (0, 0)))
 range n stored slice view wave is same kept lt = rw same (range-at n stored wave kept (subst (λ p. wave < length p) (sym is) lt))
