@@ -27,7 +27,7 @@ pub(crate) fn outward<S: Scale>(low: Quotient, high: Quotient) -> Iv<S>
     Iv::of_ends(below as i128, above as i128)
 }
 
-/// `x` times the number of parts of one unit.
+/// `x` times the number of parts that make 1.
 pub(crate) fn times_unit<S: Scale>(x: u128) -> u128
     requires { x ≤ 10 ^ 25 }
     ensures { result ≡ x * S.unit }

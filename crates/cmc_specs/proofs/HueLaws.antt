@@ -101,7 +101,7 @@ outside_stays m p r p' r' finer h k e =
     let second = lt_test (pos 0) r'.lo (times_positive m r.lo r'.lo finer (lt_holds (pos 0) r.lo both.1) k.low) in
     hold_both (int_lt (pos 0) p'.lo) (int_lt (pos 0) r'.lo) first second
 
--- an interval that is nowhere above 0 is so at a finer scale, so that both tests stay decided
+-- an interval with no number above 0 has none at a finer scale, so that both tests stay decided
 falls_short : (m : ℕ) (p p' : Ends) → Encloses m p p' → int_le p.hi (pos 0) ≡ true → (int_lt (pos 0) p'.lo ≡ false) × (int_le p'.hi (pos 0) ≡ true)
 falls_short m p p' h e =
     let o = still_not_above_0 m p.hi p'.hi h.high (le_holds p.hi (pos 0) e) in

@@ -5,7 +5,7 @@ ghost use Rattle.std.proofs.Math.Nat.{dvd-mul_right};
 
 /// A fixed-point scale: the ends of an interval count parts of 1 / `UNIT`.
 pub trait Scale: Copy {
-    /// The number of parts of one unit.
+    /// The number of parts that make 1.
     const UNIT: i128;
 
     ghost UNIT: { ℤ };
@@ -22,7 +22,7 @@ pub trait Scale: Copy {
     ghost divides: { unit ∣ 10 ^ 12 };
 }
 
-/// The number of parts of one unit, as a natural number.
+/// The number of parts that make 1, as a natural number.
 #[inline(always)]
 pub fn unit<S: Scale>() -> u64
     ensures is { result ≡ S.unit }

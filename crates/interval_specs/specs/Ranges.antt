@@ -13,6 +13,6 @@ pub record UpTo (k : ℕ) (a : Ends) : Type 0 where
   pub ordered : a.lo ≤ℤ a.hi
   pub below : a.hi ≤ℤ pos k
 
--- a, at scale n, is nowhere below the fraction num / den
+-- no number of a, at scale n, is below the fraction num / den
 pub record AtLeast (num den n : ℕ) (a : Ends) : Type 0 where
   pub low : pos (num * n) ≤ℤ (pos den *ℤ a.lo)

@@ -38,6 +38,6 @@ fn near_root(head: u64) -> u64 {
     let leading = upper.wrapping_mul(squared) >> 31;
     let cube = high_product(leading.wrapping_mul(leading), leading.wrapping_shl(32));
     let rest = head.wrapping_sub(cube);
-    let behind = ((rest >> 6).wrapping_mul(squared) >> 25) / 3;
-    leading.wrapping_shl(32).wrapping_add(behind)
+    let correction = ((rest >> 6).wrapping_mul(squared) >> 25) / 3;
+    leading.wrapping_shl(32).wrapping_add(correction)
 }

@@ -60,8 +60,8 @@ impl Near {
         let reciprocal = u64::from(value).wrapping_sub(slope.wrapping_mul(offset) >> 30);
         let leading = upper.wrapping_mul(reciprocal) >> 31;
         let rest = head.wrapping_sub(leading.wrapping_mul(leading));
-        let behind = (rest >> 10).wrapping_mul(reciprocal) >> 22;
-        let root = leading.wrapping_shl(32).wrapping_add(behind);
+        let correction = (rest >> 10).wrapping_mul(reciprocal) >> 22;
+        let root = leading.wrapping_shl(32).wrapping_add(correction);
         Near { root, reciprocal }
     }
 }

@@ -1,4 +1,4 @@
-/// The one error of the calls of a shelf or a sink: the call failed, and its count of failures
-/// rose.
+/// The only error of the calls of a shelf or a sink: the call failed, and its count of failures has
+/// risen.
 #[derive(Clone, Copy, Debug, PartialEq, Eq)]
 pub struct Failed;

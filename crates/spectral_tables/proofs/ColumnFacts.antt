@@ -15,7 +15,7 @@ use Rattle.spectral_tables.specs.CurveFile.{column_of, curves_under}
 use Rattle.spectral_tables.specs.Rows.{IsRow}
 use Rattle.spectral_tables.proofs.NameFacts.{differs_from_earlier}
 
--- what a row of the list keeps
+-- each row of the list satisfies its invariant
 pub row-at : (columns : ℕ) (rows : List (Vec ℕ)) → All (IsRow columns) (map (λ row. row.items) rows) → (k : ℕ) (d : Vec ℕ) → k < length rows → IsRow columns (get_or rows k d).items
 row-at columns rows h k d lt = subst (IsRow columns) (get_or-map (λ (row : Vec ℕ). row.items) rows k d [] lt) (h k [] (rw length-map lt))
 

@@ -69,7 +69,7 @@ hull_encloses m a b a' b' p q =
       ordered = trans_ℤ (int_min a'.lo b'.lo) a'.lo (int_max a'.hi b'.hi) (min_left a'.lo b'.lo) (trans_ℤ a'.lo a'.hi (int_max a'.hi b'.hi) p.ordered (max_left a'.hi b'.hi));
     }
 
--- what one of two intervals encloses, their hull does
+-- the hull of two intervals encloses each interval that one of them encloses
 pub hull_first : (m : ℕ) (a b x : Ends) → Encloses m a x → Encloses m (hull_of a b) x
 unfolding hull_of
 hull_first m a b x h =

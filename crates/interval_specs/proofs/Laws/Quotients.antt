@@ -12,7 +12,7 @@ use Rattle.interval_specs.proofs.Order.{parts, by_parts, to_parts, mono_left, tr
 use Rattle.interval_specs.proofs.Rounds.{floor_by_zero, ceil_by_zero, floor_mono, ceil_mono, floor_encloses, ceil_encloses, floor_le_ceil}
 use Rattle.interval_specs.proofs.Laws.Enclosing.{outer_ordered}
 
--- the floor at the fine scale, where the two quotients are compared by products
+-- the floor at the fine scale, where the inequality of the two quotients is given by products
 down_finer : (n m : ℕ) (x x' y y' : ℤ) → pos 0 <ℤ y → pos 0 <ℤ y' → (y' *ℤ x) ≤ℤ (y *ℤ x') → (pos m *ℤ quotient_down n x y) ≤ℤ quotient_down (m * n) x' y'
 down_finer n m x x' y y' some some' h =
     let k : (pos (unsigned_abs y') *ℤ x) ≤ℤ (pos (unsigned_abs y) *ℤ x') = subst (λ z. (z *ℤ x) ≤ℤ (pos (unsigned_abs y) *ℤ x')) (magnitude_is y' some') (subst (λ z. (y' *ℤ x) ≤ℤ (z *ℤ x')) (magnitude_is y some) h) in

@@ -49,7 +49,7 @@ unfolding greatest_upto
 upto_greatest power zero n r h f = h
 upto_greatest power (suc k) n r h f = step_greatest power k n r (greatest_upto power k n) (nat_le (power (suc k)) n) (le_false (power (suc k)) n) h f (λ l. upto_greatest power k n r l f)
 
--- the root below fits, and no greater number does
+-- the power of the root rounded down is at most n, and that of no greater number is
 pub below_fits : (power : ℕ → ℕ) → IsPower power → (n : ℕ) → power (root_below power n) ≤ n
 unfolding root_below
 below_fits power p n = upto_fits power p n n
@@ -58,11 +58,11 @@ pub below_greatest : (power : ℕ → ℕ) → IsPower power → (n r : ℕ) →
 unfolding root_below
 below_greatest power p n r h = let c = p.covers r in upto_greatest power n n r (omega arith) h
 
--- powers rise, so what has a lesser power is less
+-- powers rise, so that a number with a lesser power is less
 pub falls_back : (power : ℕ → ℕ) → IsPower power → (r s : ℕ) → power r < power s → r < s
 falls_back power p r s h = ⊎_elim (λ l. l) (λ l. ⊎_elim (λ m. let k = p.rises s r m in absurd (omega arith)) (λ m. let e : r ≡ s = omega arith in let k = ap power e in absurd (omega arith)) (cases_lt s r)) (cases_lt r s)
 
--- the root above is enough, and no lesser number is
+-- the power of the root rounded up is at least n, and that of no lesser number is
 pub above_fits : (power : ℕ → ℕ) → IsPower power → (n : ℕ) → n ≤ power (root_above power n)
 unfolding root_above
 above_fits power p zero = omega arith
@@ -73,7 +73,7 @@ unfolding root_above
 above_least power p zero r h = omega arith
 above_least power p (suc n) r h = let f = below_fits power p n in let l = falls_back power p (root_below power n) r (omega arith) in omega arith
 
--- what has the property of a root is the root
+-- a number that satisfies the inequalities of a root is the root
 pub below_is : (power : ℕ → ℕ) → IsPower power → (n r : ℕ) → power r ≤ n → ((s : ℕ) → power s ≤ n → s ≤ r) → r ≡ root_below power n
 below_is power p n r fits greatest =
     let a = below_greatest power p n r fits in
@@ -86,7 +86,7 @@ above_is power p n r fits least =
     let b = least (root_above power n) (above_fits power p n) in
     omega arith
 
--- the root below one number is at most the root above a greater one
+-- the root of a number, rounded down, is at most the root of a greater one, rounded up
 pub below_le_above : (power : ℕ → ℕ) → IsPower power → (n m : ℕ) → n ≤ m → root_below power n ≤ root_above power m
 below_le_above power p n m h =
     let a = below_fits power p n in
