@@ -11,7 +11,7 @@ use thiserror::Error;
 pub enum TableRule {
     /// The first record is not a header.
     NoHeader,
-    /// The record of the wavelength that must follow is missing, or another record is there instead.
+    /// The record of the wavelength that must follow is missing, or another record follows.
     BadWavelength,
     /// A record has a number of fields other than the header.
     WrongCount,
