@@ -18,6 +18,7 @@ fn assert_check(
 ) -> Result<(), Fail> {
     let flat = flat(alloc)?;
     let light = even_light(alloc)?;
+    let job = String::from_str(alloc, job)?;
     let cert = format!(in alloc; "dye-cert 1\n{lines}")?;
     let want = match want {
         "accepted floor" => format!(in alloc; "0 accepted floor\n")?,
