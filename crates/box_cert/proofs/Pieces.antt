@@ -21,7 +21,7 @@ fails_more name text more start now f =
     λ k h. let e : length (text ++ more) + k ≡ length text + (length more + k) = omega (arith, length-append text more) in f.unpromised (length more + k) (subst P e h) in
     record {
       prefix = record { done = f.prefix.done; rest = f.prefix.rest ++ more; is = sym (append_assoc f.prefix.done f.prefix.rest more) ∙ ap (λ t. t ++ more) f.prefix.is; contents = f.prefix.contents };
-      only = record { reads = f.only.reads; handed = f.only.handed; files = f.only.files; grows = f.only.grows; others = f.only.others; reads_kept = f.only.reads_kept; writes_kept = λ k h. absurd (never k h) };
+      effect = record { reads = f.effect.reads; handed = f.effect.handed; files = f.effect.files; grows = f.effect.grows; others = f.effect.others; reads_kept = f.effect.reads_kept; writes_kept = λ k h. absurd (never k h) };
       counted = f.counted;
       unpromised = never;
     }
@@ -32,12 +32,12 @@ on_waiting name waiting piece view = λ start text h. record {
   done = h.done;
   is = sym (append_assoc h.done waiting piece) ∙ ap (λ t. t ++ piece) h.is;
   contents = h.contents;
-  only = h.only;
+  effect = h.effect;
   counted = h.counted;
 }
 
 pub on_nothing : (name waiting : List ℕ) (view : ShelfView) → GoesOn name [] waiting view waiting view
-on_nothing name waiting view = λ start text h. record { done = h.done; is = h.is ∙ sym (append-nil text); contents = h.contents; only = h.only; counted = h.counted }
+on_nothing name waiting view = λ start text h. record { done = h.done; is = h.is ∙ sym (append-nil text); contents = h.contents; effect = h.effect; counted = h.counted }
 
 -- a piece is put after another one
 pub on_on : (name a b w0 w1 w2 : List ℕ) (old mid new : ShelfView) → GoesOn name a w0 old w1 mid → GoesOn name b w1 mid w2 new → GoesOn name (a ++ b) w0 old w2 new
@@ -60,13 +60,13 @@ wrong_more name a b w0 old new f = λ start text h.
 -- the waiting bytes were appended
 pub on_flushed : (name waiting : List ℕ) (old new : ShelfView) → AddsTo name waiting old.contents new.contents → OnlyWrites name (length waiting) old new
     → new.write_faults name ≡ old.write_faults name → GoesOn name [] waiting old [] new
-on_flushed name waiting old new adds only same = λ start text h.
+on_flushed name waiting old new adds effect same = λ start text h.
     let P : ℕ → Type 0 = λ k. OnlyWrites name k start new in
     record {
       done = h.done ++ waiting;
       is = ap (λ t. t ++ []) h.is;
       contents = written_more name h.done waiting start.contents old.contents new.contents h.contents adds;
-      only = subst P (sym (length-append h.done waiting)) (writes_then name (length h.done) (length waiting) start old new h.only only);
+      effect = subst P (sym (length-append h.done waiting)) (writes_then name (length h.done) (length waiting) start old new h.effect effect);
       counted = same ∙ h.counted;
     }
 
@@ -74,7 +74,7 @@ on_flushed name waiting old new adds only same = λ start text h.
 pub wrong_flush : (name waiting : List ℕ) (old new : ShelfView) → AddsPrefixTo name waiting old.contents new.contents → OnlyWrites name (length waiting) old new
     → CountsFailure true (old.write_faults name) (new.write_faults name) → ((more : ℕ) → IsTrue (old.writes_promised name (length waiting + more)) → ⊥)
     → GoesWrong name [] waiting old new
-wrong_flush name waiting old new adds only counted unpromised = λ start text h.
+wrong_flush name waiting old new adds effect counted unpromised = λ start text h.
     let k = adds.0 in
     let size : length (text ++ []) ≡ length h.done + length waiting = ap length (append-nil text ∙ sym h.is) ∙ length-append h.done waiting in
     let P : ℕ → Type 0 = λ n. OnlyWrites name n start new in
@@ -87,11 +87,11 @@ wrong_flush name waiting old new adds only counted unpromised = λ start text h.
         is = append_assoc h.done (take k waiting) (drop k waiting) ∙ ap (λ t. h.done ++ t) (take-append-drop k waiting) ∙ h.is ∙ sym (append-nil text);
         contents = written_more name h.done (take k waiting) start.contents old.contents new.contents h.contents adds.1;
       };
-      only = subst P (sym size) (writes_then name (length h.done) (length waiting) start old new h.only only);
+      effect = subst P (sym size) (writes_then name (length h.done) (length waiting) start old new h.effect effect);
       counted = subst Q h.counted counted;
       unpromised = λ more p.
           let e : length (text ++ []) + more ≡ length h.done + (length waiting + more) = omega (arith, size) in
-          unpromised more (h.only.writes_kept (length waiting + more) (subst R e p)).0;
+          unpromised more (h.effect.writes_kept (length waiting + more) (subst R e p)).0;
     }
 
 none_some : (c : Contents) → None ≡ Some c → ⊥

@@ -56,20 +56,20 @@ module _ (dims counter : ℕ) (steps rest : List ℕ) (all : Option (List ℕ)) 
       sym (ap (λ k. with_prefix steps (numbers_at k rest)) s ∙ ap (with_prefix steps) (at_word (dims - (counter + 1)) rest None e)) ∙ h
 
   -- the word is no number
-  pub no_number : (word behind : List ℕ) → counter < dims → cut_at 32 rest ≡ Some (word, behind) → number_of 0 4000 word ≡ None → None ≡ all
-  no_number word behind l e n =
+  pub no_number : (word tail : List ℕ) → counter < dims → cut_at 32 rest ≡ Some (word, tail) → number_of 0 4000 word ≡ None → None ≡ all
+  no_number word tail l e n =
       let s : dims - counter ≡ suc (dims - (counter + 1)) = omega arith in
-      sym (ap (λ k. with_prefix steps (numbers_at k rest)) s ∙ ap (with_prefix steps) (at_word (dims - (counter + 1)) rest (Some (word, behind)) e)
-      ∙ ap (λ o. with_prefix steps (number_before o (numbers_at (dims - (counter + 1)) behind))) n) ∙ h
+      sym (ap (λ k. with_prefix steps (numbers_at k rest)) s ∙ ap (with_prefix steps) (at_word (dims - (counter + 1)) rest (Some (word, tail)) e)
+      ∙ ap (λ o. with_prefix steps (number_before o (numbers_at (dims - (counter + 1)) tail))) n) ∙ h
 
   -- one more number was read
-  pub one_number : (word behind : List ℕ) (n : ℕ) → counter < dims → cut_at 32 rest ≡ Some (word, behind) → number_of 0 4000 word ≡ Some n
-      → with_prefix (steps ++ n ∷ []) (numbers_at (dims - (counter + 1)) behind) ≡ all
-  one_number word behind n l e w =
+  pub one_number : (word tail : List ℕ) (n : ℕ) → counter < dims → cut_at 32 rest ≡ Some (word, tail) → number_of 0 4000 word ≡ Some n
+      → with_prefix (steps ++ n ∷ []) (numbers_at (dims - (counter + 1)) tail) ≡ all
+  one_number word tail n l e w =
       let s : dims - counter ≡ suc (dims - (counter + 1)) = omega arith in
-      prefix_more steps n (numbers_at (dims - (counter + 1)) behind)
-      ∙ sym (ap (λ k. with_prefix steps (numbers_at k rest)) s ∙ ap (with_prefix steps) (at_word (dims - (counter + 1)) rest (Some (word, behind)) e)
-      ∙ ap (λ o. with_prefix steps (number_before o (numbers_at (dims - (counter + 1)) behind))) w) ∙ h
+      prefix_more steps n (numbers_at (dims - (counter + 1)) tail)
+      ∙ sym (ap (λ k. with_prefix steps (numbers_at k rest)) s ∙ ap (with_prefix steps) (at_word (dims - (counter + 1)) rest (Some (word, tail)) e)
+      ∙ ap (λ o. with_prefix steps (number_before o (numbers_at (dims - (counter + 1)) tail))) w) ∙ h
 
   -- the last number
   pub last_number : (o : Option ℕ) → dims ≤ counter → number_of 0 4000 rest ≡ o → with_prefix steps (option_map (λ n. n ∷ []) o) ≡ all

@@ -40,18 +40,18 @@ module _ (name head recipes lines : List ℕ) (old : ShelfView) where
 -- the file is created, and then the text is put while no byte waits
 pub written : {T E : Type 0} (r : Result T E) (name text : List ℕ) (old mid new : ShelfView) → mid.contents ≡ option_map (put_bytes name []) old.contents
     → OnlyWrites name 0 old mid → mid.write_faults name ≡ old.write_faults name → Goes name text r [] mid [] new → Writes name text r old new
-written (Ok x) name text old mid new made only same goes =
-    let begun : Holds name [] [] old mid = record { done = []; is = refl; contents = written_none name old.contents mid.contents made; only = only; counted = same } in
+written (Ok x) name text old mid new made effect same goes =
+    let begun : Holds name [] [] old mid = record { done = []; is = refl; contents = written_none name old.contents mid.contents made; effect = effect; counted = same } in
     let h = goes old [] begun in
     let is : h.done ≡ text = sym (append-nil h.done) ∙ h.is in
     let P : List ℕ → Type 0 = λ t. OnlyWrites name (length t) old new in
     record {
       contents = h.contents ∙ ap (λ t. option_map (write_bytes name t) old.contents) is;
-      only = subst P is h.only;
+      effect = subst P is h.effect;
       counted = h.counted;
       promised = λ more p. refl;
     }
-written (Err e) name text old mid new made only same goes =
-    let begun : Holds name [] [] old mid = record { done = []; is = refl; contents = written_none name old.contents mid.contents made; only = only; counted = same } in
+written (Err e) name text old mid new made effect same goes =
+    let begun : Holds name [] [] old mid = record { done = []; is = refl; contents = written_none name old.contents mid.contents made; effect = effect; counted = same } in
     let f = goes old [] begun in
-    record { contents = inr f.prefix; only = f.only; counted = f.counted; promised = λ more p. absurd (f.unpromised more p) }
+    record { contents = inr f.prefix; effect = f.effect; counted = f.counted; promised = λ more p. absurd (f.unpromised more p) }

@@ -25,7 +25,7 @@ WritesText name text (Err _) old new = IsCutOff name text old new
 -- what a call that writes a file does
 pub record Writes {T E : Type 0} (name text : List ℕ) (result : Result T E) (old new : ShelfView) : Type 0 where
   pub contents : WritesText name text result old.contents new.contents
-  pub only : OnlyWrites name (length text) old new
+  pub effect : OnlyWrites name (length text) old new
   pub counted : CountsFailure (is_err result) (old.write_faults name) (new.write_faults name)
   pub promised : (more : ℕ) → IsTrue (old.writes_promised name (length text + more)) → IsOk result
 
@@ -34,13 +34,13 @@ pub record Holds (name waiting text : List ℕ) (start now : ShelfView) : Type 0
   pub done : List ℕ
   pub is : done ++ waiting ≡ text
   pub contents : now.contents ≡ option_map (write_bytes name done) start.contents
-  pub only : OnlyWrites name (length done) start now
+  pub effect : OnlyWrites name (length done) start now
   pub counted : now.write_faults name ≡ start.write_faults name
 
 -- since the start a prefix of the text was written, and then an append failed
 pub record Fails (name text : List ℕ) (start now : ShelfView) : Type 0 where
   pub prefix : WritesPrefix name text start.contents now.contents
-  pub only : OnlyWrites name (length text) start now
+  pub effect : OnlyWrites name (length text) start now
   pub counted : CountsFailure true (start.write_faults name) (now.write_faults name)
   pub unpromised : (more : ℕ) → IsTrue (start.writes_promised name (length text + more)) → ⊥
 

@@ -80,14 +80,14 @@ fn recipe_line(line: &[u8], dims: usize) -> Option<Steps>
     let mut steps = Steps::new();
     let mut rest = line;
     for _ in 1..dims {
-        let Some((word, behind)) = cut_at(b' ', rest) else {
+        let Some((word, tail)) = cut_at(b' ', rest) else {
             return None;
         };
         let Some(n) = number(word, 0, 4000) else {
             return None;
         };
         steps.push(n as u16);
-        rest = behind;
+        rest = tail;
     }
     let Some(last) = number(rest, 0, 4000) else {
         return None;

@@ -23,7 +23,7 @@ fn next_line(text: &[u8], line: u32) -> Result<(&[u8], &[u8]), CertError>
     ensures shorter { IfOk result (λ r. length r.0.now + 1 + length r.1.now ≡ length text.now) }
 {
     match cut_at(b'\n', text) {
-        Some((word, behind)) => Ok((word, behind)),
+        Some((word, tail)) => Ok((word, tail)),
         None => Err(fault(line, CertRule::Missing)),
     }
 }
@@ -40,11 +40,11 @@ fn header_line(text: &[u8]) -> Result<&[u8], CertError>
         (next_of BadHeader header_of (cursor_of 1 text.now)) }
     ensures shorter { IfOk result (λ r. length r.now ≤ length text.now) }
 {
-    let (line, behind) = next_line(text, 1)?;
+    let (line, tail) = next_line(text, 1)?;
     if !is_header(line) {
         return Err(fault(1, CertRule::BadHeader));
     }
-    Ok(behind)
+    Ok(tail)
 }
 
 /// The claim that a line spells.
@@ -56,14 +56,14 @@ fn read_claim(line: &[u8], dims: usize) -> Option<Claim>
     ensures dims { IfSome result (HasDims dims) }
 {
     match cut_at(b' ', line) {
-        Some((word, behind)) => {
+        Some((word, tail)) => {
             if word == b"match".as_slice() {
-                match read_recipe(behind, dims) {
+                match read_recipe(tail, dims) {
                     Some(steps) => Some(Claim::Match(steps)),
                     None => None,
                 }
             } else if word == b"floor".as_slice() {
-                match number(behind, 0, 1_000_000_000_000_000) {
+                match number(tail, 0, 1_000_000_000_000_000) {
                     Some(cost) => Some(Claim::Floor(cost)),
                     None => None,
                 }
@@ -91,9 +91,9 @@ fn claim_line(text: &[u8], dims: usize) -> Result<(Claim, &[u8]), CertError>
     ensures dims { IfOk result (λ r. HasDims dims r.0) }
     ensures shorter { IfOk result (λ r. length r.1.now ≤ length text.now) }
 {
-    let (line, behind) = next_line(text, 2)?;
+    let (line, tail) = next_line(text, 2)?;
     match read_claim(line, dims) {
-        Some(claim) => Ok((claim, behind)),
+        Some(claim) => Ok((claim, tail)),
         None => Err(fault(2, CertRule::BadClaim)),
     }
 }
@@ -104,9 +104,9 @@ fn read_count(line: &[u8]) -> Option<u32>
     ensures few { IfSome result (λ n. n ≤ 1000000) }
 {
     match cut_at(b' ', line) {
-        Some((word, behind)) => {
+        Some((word, tail)) => {
             if word == b"undecided".as_slice() {
-                match number(behind, 0, 1_000_000) {
+                match number(tail, 0, 1_000_000) {
                     Some(count) => Some(count as u32),
                     None => None,
                 }
@@ -125,9 +125,9 @@ fn count_line(text: &[u8]) -> Result<(u32, &[u8]), CertError>
     ensures few { IfOk result (λ r. r.0 ≤ 1000000) }
     ensures shorter { IfOk result (λ r. length r.1.now ≤ length text.now) }
 {
-    let (line, behind) = next_line(text, 3)?;
+    let (line, tail) = next_line(text, 3)?;
     match read_count(line) {
-        Some(count) => Ok((count, behind)),
+        Some(count) => Ok((count, tail)),
         None => Err(fault(3, CertRule::BadClaim)),
     }
 }
@@ -142,9 +142,9 @@ fn recipe_line(text: &[u8], line: u32, dims: usize) -> Result<(Steps, &[u8]), Ce
     ensures fits { IfOk result (λ r. StepsFit r.0.items) }
     ensures shorter { IfOk result (λ r. length r.1.now ≤ length text.now) }
 {
-    let (word, behind) = next_line(text, line)?;
+    let (word, tail) = next_line(text, line)?;
     match read_recipe(word, dims) {
-        Some(steps) => Ok((steps, behind)),
+        Some(steps) => Ok((steps, tail)),
         None => Err(fault(line, CertRule::BadLine)),
     }
 }
@@ -156,9 +156,9 @@ fn tree_line(text: &[u8], line: u32) -> Result<(CertLine, &[u8]), CertError>
     ensures fits { IfOk result (λ r. LineFits r.0) }
     ensures shorter { IfOk result (λ r. length r.1.now + 2 ≤ length text.now) }
 {
-    let (word, behind) = next_line(text, line)?;
+    let (word, tail) = next_line(text, line)?;
     match read_line(word) {
-        Some(r) => Ok((r, behind)),
+        Some(r) => Ok((r, tail)),
         None => Err(fault(line, CertRule::BadLine)),
     }
 }
@@ -181,14 +181,14 @@ fn recipes(
     let mut list = Vec::new(alloc);
     let mut rest = text;
     for i in 0..count {
-        let (steps, behind) = match recipe_line(rest, 4 + i, dims) {
+        let (steps, tail) = match recipe_line(rest, 4 + i, dims) {
             Ok(r) => r,
             Err(e) => return Err(e),
         };
         let Ok(()) = list.push(steps) else {
             return Err(CertError::Memory);
         };
-        rest = behind;
+        rest = tail;
     }
     Ok((list, rest))
 }
@@ -216,14 +216,14 @@ fn tree(alloc: Global, text: &[u8], first: u32) -> Result<(Vec<CertLine>, &[u8],
     let mut number = first;
     let mut wanted = 1u32;
     while wanted > 0 {
-        let (line, behind) = match tree_line(rest, number) {
+        let (line, tail) = match tree_line(rest, number) {
             Ok(r) => r,
             Err(e) => return Err(e),
         };
         let Ok(()) = lines.push(line) else {
             return Err(CertError::Memory);
         };
-        rest = behind;
+        rest = tail;
         number += 1;
         wanted = parts_of(line) + (wanted - 1);
     }
@@ -267,7 +267,7 @@ pub fn read_cert(alloc: Global, bytes: &[u8], dims: usize) -> Result<Cert, CertE
     ensures fits { IfOk result (λ cert. IsCertFor dims (content cert)) }
     ensures found { IfOk result (λ cert. bytes.now ≡ cert_text (content cert)) }
     // The spelling of a certificate is read as that certificate, unless memory runs out.
-    ensures only { (c : Content) → IsCertFor dims c → bytes.now ≡ cert_text c →
+    ensures unique { (c : Content) → IsCertFor dims c → bytes.now ≡ cert_text c →
         Gives (λ cert. content cert) result (Ok c) }
 {
     whole_cert(alloc, bytes, dims)

@@ -154,7 +154,7 @@ module _ (l : Land) (lawful : IsLawful l) where
           let a = s.waits z c h in
           let corner : c.lo ≡ b.lo = sym (ap (λ (q : Spot). q.key.steps) a.place) ∙ e in
           let sound_c = subst (IsSound l) a.box (at_sound l lawful z.depth a.part a.at) in
-          s.apart z Here c b b.lo h here (subst (λ r. IsWithin r c) corner (corner_in_box l c sound_c)) (corner_in_box l b sound)
+          s.disjoint z Here c b b.lo h here (subst (λ r. IsWithin r c) corner (corner_in_box l c sound_c)) (corner_in_box l b sound)
 
       before_others : (z : Spot) (c : Span) → f z ≡ Some c → is_eq (spot_cmp Here z) ≡ false → first (spot_of l (d + 1) (lower_half b (cut_of b))) z ≡ true
       before_others z c h k =
@@ -193,7 +193,7 @@ module _ (l : Land) (lawful : IsLawful l) where
       | inr x ↦ absurd (none_some b x)
     ];
     later = λ z b h. refl;
-    apart = λ z y b c r h k x w. elim (entry_cases (spot_of l 0 l.top) l.top (λ q. None) z b h) as (λ _. z ≡ y) [
+    disjoint = λ z y b c r h k x w. elim (entry_cases (spot_of l 0 l.top) l.top (λ q. None) z b h) as (λ _. z ≡ y) [
       | inl p ↦ elim (entry_cases (spot_of l 0 l.top) l.top (λ q. None) y c k) as (λ _. z ≡ y) [
         | inl q ↦ sym p.0 ∙ q.0
         | inr q ↦ absurd (none_some c q)

@@ -22,7 +22,7 @@ use Rattle.box_specs.proofs.Cuts.{from_lower, from_upper, in_lower, in_upper, no
 use Rattle.box_search.specs.Frontier.{IsAt, IsCovered, IsOpen, State, done_in, is_done, with_entry, without}
 use Rattle.box_search.proofs.Orders.{IsTied, by, equal_one, equal_spot, equal_two, first, key_not_before, not_after, not_both, not_itself, on_before, same_list, same_number, spots_are_ordered, tied, tied_keys}
 use Rattle.box_search.proofs.Ranks.{alike, at_sound, at_tree, below_after, not_false, not_true, whole}
-use Rattle.box_search.proofs.Trees.{IsSound, IsTree, apart, corner_within, count_le, count_lt, halved, inside_itself, part_deep, part_inside, part_tree, sound_of, within_inside}
+use Rattle.box_search.proofs.Trees.{IsSound, IsTree, disjoint, corner_within, count_le, count_lt, halved, inside_itself, part_deep, part_inside, part_tree, sound_of, within_inside}
 use Rattle.box_search.proofs.Walks.{undecided}
 
 -- places that compare equal are one
@@ -78,8 +78,8 @@ module _ (l : Land) where
   shared_part (fork b s t) k d u v r i (inr (inr h)) (inl m) x y = absurd (omega (arith, m.0, part_deep l t (k + 1) d u h))
   shared_part (fork b s t) k d u v r i (inr (inl h)) (inr (inl m)) x y = shared_part s (k + 1) d u v r i.4 h m x y
   shared_part (fork b s t) k d u v r i (inr (inr h)) (inr (inr m)) x y = shared_part t (k + 1) d u v r i.5 h m x y
-  shared_part (fork b s t) k d u v r i (inr (inl h)) (inr (inr m)) x y = absurd (apart l b s t (k + 1) d d u v r i h m x y)
-  shared_part (fork b s t) k d u v r i (inr (inr h)) (inr (inl m)) x y = absurd (apart l b s t (k + 1) d d v u r i m h y x)
+  shared_part (fork b s t) k d u v r i (inr (inl h)) (inr (inr m)) x y = absurd (disjoint l b s t (k + 1) d d u v r i h m x y)
+  shared_part (fork b s t) k d u v r i (inr (inr h)) (inr (inl m)) x y = absurd (disjoint l b s t (k + 1) d d v u r i m h y x)
 
   -- the lower corner of a box is one of its recipes
   pub corner_in_box : (b : Span) → IsSound l b → IsWithin b.lo b
@@ -307,7 +307,7 @@ module _ (l : Land) (lawful : IsLawful l) (f fnew : Spot → Option Span) (g : S
 
     not_child : (z y : Spot) (b c : Span) (r : List ℕ) → f z ≡ Some b → is_eq (spot_cmp Q z) ≡ false → IsChild y c → IsWithin r b → IsWithin r c → ⊥
     not_child z y b c r h k m x w =
-        let same : z ≡ Q = s.apart z Q b (root u) r h here x (of_child y c r m w) in
+        let same : z ≡ Q = s.disjoint z Q b (root u) r h here x (of_child y c r m w) in
         false≢true (sym k ∙ subst (λ q. is_eq (spot_cmp Q q) ≡ true) (sym same) (ap is_eq (tied_itself spots_are_ordered Q)))
 
     one_child : (z y : Spot) (b c : Span) (r : List ℕ) → IsChild z b → IsChild y c → IsWithin r b → IsWithin r c → z ≡ y
@@ -317,10 +317,10 @@ module _ (l : Land) (lawful : IsLawful l) (f fnew : Spot → Option Span) (g : S
         let box : b ≡ c = sym m.box ∙ ap root same ∙ o.box in
         m.place ∙ (λ j. spot_of l (depth j) (box j)) ∙ sym o.place
 
-    apart_after : (z y : Spot) (b c : Span) (r : List ℕ) → fnew z ≡ Some b → fnew y ≡ Some c → IsWithin r b → IsWithin r c → z ≡ y
-    apart_after z y b c r h k x w = elim (t.new z b h) as (λ _. z ≡ y) [
+    disjoint_after : (z y : Spot) (b c : Span) (r : List ℕ) → fnew z ≡ Some b → fnew y ≡ Some c → IsWithin r b → IsWithin r c → z ≡ y
+    disjoint_after z y b c r h k x w = elim (t.new z b h) as (λ _. z ≡ y) [
       | inl p ↦ elim (t.new y c k) as (λ _. z ≡ y) [
-        | inl q ↦ s.apart z y b c r p.0 q.0 x w
+        | inl q ↦ s.disjoint z y b c r p.0 q.0 x w
         | inr m ↦ absurd (not_child z y b c r p.0 p.1 m x w)
       ]
       | inr m ↦ elim (t.new y c k) as (λ _. z ≡ y) [
@@ -425,7 +425,7 @@ module _ (l : Land) (lawful : IsLawful l) (f fnew : Spot → Option Span) (g : S
     step won h = record {
       waits = waits_at;
       later = later;
-      apart = apart_after;
+      disjoint = disjoint_after;
       covers = covers;
       counted = counted;
       written = written;

@@ -157,9 +157,9 @@ module _ (l : Land) where
   within_inside r b c h k = (up_to_trans c.lo b.lo r k.0 h.0, up_to_trans r b.hi c.hi h.1 k.1)
 
   -- no recipe lies in parts of both halves
-  pub apart : (b : Span) (lower upper : Tree) (k d e : ℕ) (u v : Tree) (r : List ℕ) → IsTree l (fork b lower upper) → IsPart l lower k d u → IsPart l upper k e v
+  pub disjoint : (b : Span) (lower upper : Tree) (k d e : ℕ) (u v : Tree) (r : List ℕ) → IsTree l (fork b lower upper) → IsPart l lower k d u → IsPart l upper k e v
       → IsWithin r (root u) → IsWithin r (root v) → ⊥
-  apart b lower upper k d e u v r i h m x y =
+  disjoint b lower upper k d e u v r i h m x y =
       let low = subst (λ c. IsWithin r c) i.2 (within_inside r _ _ x (part_inside lower k d u i.4 h)) in
       let high = subst (λ c. IsWithin r c) i.3 (within_inside r _ _ y (part_inside upper k e v i.5 m)) in
       not_both b (cut_of b) i.0.box (halved l b i.0 i.1).cuts r low high
@@ -197,8 +197,8 @@ module _ (l : Land) where
       subst (λ w. IsPart l w e d (leaf b)) m.1 (subst F m.0 h)
   over (fork c lower upper) k d e b v r i (inl h) (inr m) x y = absurd (false≢true (ap is_leaf h.1))
   over (fork c lower upper) k d e b v r i (inr (inl h)) (inr (inl m)) x y = over lower (k + 1) d e b v r i.4 h m x y
-  over (fork c lower upper) k d e b v r i (inr (inl h)) (inr (inr m)) x y = absurd (apart c lower upper (k + 1) d e (leaf b) v r i h m x y)
-  over (fork c lower upper) k d e b v r i (inr (inr h)) (inr (inl m)) x y = absurd (apart c lower upper (k + 1) e d v (leaf b) r i m h y x)
+  over (fork c lower upper) k d e b v r i (inr (inl h)) (inr (inr m)) x y = absurd (disjoint c lower upper (k + 1) d e (leaf b) v r i h m x y)
+  over (fork c lower upper) k d e b v r i (inr (inr h)) (inr (inl m)) x y = absurd (disjoint c lower upper (k + 1) e d v (leaf b) r i m h y x)
   over (fork c lower upper) k d e b v r i (inr (inr h)) (inr (inr m)) x y = over upper (k + 1) d e b v r i.5 h m x y
 
   -- counts

@@ -54,7 +54,7 @@ module _ (l : Land) where
   pub record State (f : Spot → Option Span) (g : Spot → Option CertLine) (last : Option Spot) (n : ℕ) (listed : List (List ℕ)) (won : Option (List ℕ)) : Type 0 where
     pub waits : (z : Spot) (b : Span) → f z ≡ Some b → IsAt z b
     pub later : (z : Spot) (b : Span) → f z ≡ Some b → is_done last z ≡ false
-    pub apart : (z y : Spot) (b c : Span) (r : List ℕ) → f z ≡ Some b → f y ≡ Some c → IsWithin r b → IsWithin r c → z ≡ y
+    pub disjoint : (z y : Spot) (b c : Span) (r : List ℕ) → f z ≡ Some b → f y ≡ Some c → IsWithin r b → IsWithin r c → z ≡ y
     pub covers : (e : ℕ) (v : Tree) → IsPart l (tree_of l) 0 e v → done_in last e (root v) ≡ false → IsCovered f e v
     pub counted : count (done_in last) 0 (tree_of l) ≡ n
     pub written : (e : ℕ) (v : Tree) → IsPart l (tree_of l) 0 e v → g (spot_of l e (root v)) ≡ (if done_in last e (root v) then Some (line_of l (root v)) else None)

@@ -34,10 +34,10 @@ parts claim listed lines h =
 
 recipe_fits : (steps : List ℕ) → is_recipe steps ≡ true → StepsFit steps
 recipe_fits [] h = absurd (false≢true h)
-recipe_fits (n ∷ []) h = only where
-  only : (k d : ℕ) → k < length (n ∷ []) → get_or (n ∷ []) k d ≤ 4000
-  only zero d lt = at_most n 4000 h
-  only (suc k) d lt = absurd (omega arith)
+recipe_fits (n ∷ []) h = first_fits where
+  first_fits : (k d : ℕ) → k < length (n ∷ []) → get_or (n ∷ []) k d ≤ 4000
+  first_fits zero d lt = at_most n 4000 h
+  first_fits (suc k) d lt = absurd (omega arith)
 recipe_fits (n ∷ (m ∷ steps)) h = absurd (false≢true h)
 
 one_number : (steps : List ℕ) → is_recipe steps ≡ true → length steps ≡ 1

@@ -136,8 +136,8 @@ module _ (l : Land) (lawful : IsLawful l) where
         omega (arith, more, bound)
 
     -- the lower corner of a box of one recipe is its recipe
-    only : (b : Span) (steps : List ℕ) → is_single b ≡ true → IsWithin steps b → b.lo ≡ steps
-    only b steps h w =
+    is_corner : (b : Span) (steps : List ℕ) → is_single b ≡ true → IsWithin steps b → b.lo ≡ steps
+    is_corner b steps h w =
         let one = same_is b.lo b.hi h in
         between b.lo steps w.0 (subst (λ hi. IsUpTo steps hi) (sym one) w.1) where
           between : (a c : List ℕ) → IsUpTo a c → IsUpTo c a → a ≡ c
@@ -149,7 +149,7 @@ module _ (l : Land) (lawful : IsLawful l) where
               λ i. first i ∷ between a c h.1 k.1 i
 
     settled_undecided : (b : Span) → is_single b ≡ true → is_listed listed b.lo ≡ true → Settles l claim listed b
-    settled_undecided b h i = record { each = λ steps w a. inl (inr (subst (λ r. is_listed listed r ≡ true) (only b steps h w) i)) }
+    settled_undecided b h i = record { each = λ steps w a. inl (inr (subst (λ r. is_listed listed r ≡ true) (is_corner b steps h w) i)) }
 
     claimed_late : (c : Claim) (steps : List ℕ) → is_claimed c steps ≡ true → IsLate l c steps
     claimed_late (Match recipe) steps h = subst (λ r. is_before l r recipe.items ≡ false) (same_is recipe.items steps h) (never_before_itself l recipe.items)
@@ -157,7 +157,7 @@ module _ (l : Land) (lawful : IsLawful l) where
     claimed_late (Floor cost) steps h = absurd (false≢true h)
 
     settled_pass : (b : Span) → is_single b ≡ true → is_claimed claim b.lo ≡ true → Settles l claim listed b
-    settled_pass b h i = record { each = λ steps w a. inr (subst (λ r. IsLate l claim r) (only b steps h w) (claimed_late claim b.lo i)) }
+    settled_pass b h i = record { each = λ steps w a. inr (subst (λ r. IsLate l claim r) (is_corner b steps h w) (claimed_late claim b.lo i)) }
 
     settled_halves : (b : Span) (cut : CutAt) → IsPart l b → is_cut b cut ≡ true → Settles l claim listed (lower_half b cut)
         → Settles l claim listed (upper_half b cut) → Settles l claim listed b

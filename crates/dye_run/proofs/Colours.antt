@@ -11,15 +11,15 @@ use Rattle.tristimulus.proofs.RatioLaws.{ratio_not_negative, ratios_enclose}
 use Rattle.dye_run.specs.Answers.{StandsFiner}
 use Rattle.dye_run.specs.Colours.{curve_lab, curve_ratios}
 
-pub curve_ratios_enclose : (n m : ℕ) (light : WeightTable) (curve : List ℕ) → EnclosesRatios m (curve_ratios light curve n) (curve_ratios light curve (m * n))
-curve_ratios_enclose n m light curve = ratios_enclose n m (spectrum_at n curve) (spectrum_at (m * n) curve) light (spectrum_encloses n m curve)
+pub curve_ratios_enclose : (n m : ℕ) (weights : WeightTable) (curve : List ℕ) → EnclosesRatios m (curve_ratios weights curve n) (curve_ratios weights curve (m * n))
+curve_ratios_enclose n m weights curve = ratios_enclose n m (spectrum_at n curve) (spectrum_at (m * n) curve) weights (spectrum_encloses n m curve)
 
-pub curve_lab_encloses : (n m : ℕ) (light : WeightTable) (curve : List ℕ) → 0 < m → EnclosesLab m (curve_lab light curve n) (curve_lab light curve (m * n))
+pub curve_lab_encloses : (n m : ℕ) (weights : WeightTable) (curve : List ℕ) → 0 < m → EnclosesLab m (curve_lab weights curve n) (curve_lab weights curve (m * n))
 unfolding ratios_at
-curve_lab_encloses n m light curve some =
-    let r = curve_ratios_enclose n m light curve in
-    let at = λ (column : ℕ). ratio_not_negative n column (spectrum_at n curve) light in
-    lab_encloses n m (curve_ratios light curve n) (curve_ratios light curve (m * n)) some (at 0) (at 1) (at 2) r
+curve_lab_encloses n m weights curve some =
+    let r = curve_ratios_enclose n m weights curve in
+    let at = λ (column : ℕ). ratio_not_negative n column (spectrum_at n curve) weights in
+    lab_encloses n m (curve_ratios weights curve n) (curve_ratios weights curve (m * n)) some (at 0) (at 1) (at 2) r
 
 pub no_more : All StandsFiner []
 no_more = λ k d h. absurd (omega arith)

@@ -22,6 +22,6 @@ three_stand k l n x y z p q r =
     (All-cons StandsFiner (evaluation l y) (evaluation n z ∷ []) (stands l y None q)
     (All-cons StandsFiner (evaluation n z) [] (stands n z None r) no_more))
 
-pub coordinates_proper : (evaluations : WeightTable → List ℕ → List Evaluation) → ((light : WeightTable) (curve : List ℕ) → All StandsFiner (evaluations light curve)) → (words : LitColumn) (tables : Tables) → IsProper None (outcome_of (coordinates_report evaluations words tables))
+pub coordinates_proper : (evaluations : WeightTable → List ℕ → List Evaluation) → ((weights : WeightTable) (curve : List ℕ) → All StandsFiner (evaluations weights curve)) → (words : LitColumn) (tables : Tables) → IsProper None (outcome_of (coordinates_report evaluations words tables))
 unfolding coordinates_report
-coordinates_proper evaluations finer words tables = proper_then (curve_from words.curves words.column tables.book) _ (λ curve. proper_report refl (finer tables.light curve))
+coordinates_proper evaluations finer words tables = proper_then (curve_from words.curves words.column tables.book) _ (λ curve. proper_report refl (finer tables.weights curve))

@@ -12,15 +12,15 @@ use Rattle.dye_run.proofs.Colours.{curve_lab_encloses, no_more}
 use Rattle.dye_run.proofs.Proper.{IsProper, proper_report, proper_then}
 use Rattle.dye_run.proofs.Verdicts.{stands}
 
-difference_stands : (words : DiffWords) (light : WeightTable) (standard sample : List ℕ) → All StandsFiner (difference_evaluation words light standard sample ∷ [])
-difference_stands words light standard sample =
-    let at = curve_difference words.l10 words.c10 light standard sample in
-    let first = curve_lab light standard in
-    let second = curve_lab light sample in
-    All-cons StandsFiner (difference_evaluation words light standard sample) []
+difference_stands : (words : DiffWords) (weights : WeightTable) (standard sample : List ℕ) → All StandsFiner (difference_evaluation words weights standard sample ∷ [])
+difference_stands words weights standard sample =
+    let at = curve_difference words.l10 words.c10 weights standard sample in
+    let first = curve_lab weights standard in
+    let second = curve_lab weights sample in
+    All-cons StandsFiner (difference_evaluation words weights standard sample) []
     (stands (codes "DE") at words.tolerance (λ m some.
     any_colours_enclose words.l10 words.c10 base_unit m (first base_unit) (second base_unit) (first (m * base_unit)) (second (m * base_unit)) (lit≤ tt) some
-    (curve_lab_encloses base_unit m light standard some) (curve_lab_encloses base_unit m light sample some)))
+    (curve_lab_encloses base_unit m weights standard some) (curve_lab_encloses base_unit m weights sample some)))
     no_more
 
 difference_proper : (tolerance : Option ℕ) (e : Evaluation) → All StandsFiner (e ∷ []) → IsProper None (reported (difference_report tolerance e))
@@ -31,4 +31,4 @@ pub diff_proper : (words : DiffWords) (tables : Tables) → IsProper None (outco
 unfolding diff_report
 diff_proper words tables =
     proper_then (curve_from words.curves words.standard tables.book) _ (λ standard. proper_then (curve_from words.curves words.sample tables.book) _ (λ sample.
-    difference_proper words.tolerance (difference_evaluation words tables.light standard sample) (difference_stands words tables.light standard sample)))
+    difference_proper words.tolerance (difference_evaluation words tables.weights standard sample) (difference_stands words tables.weights standard sample)))

@@ -103,10 +103,10 @@ written_files (Some f) before mid after same w = w.contents ∙ ap (option_map (
 
 -- a write that failed after reads had been made failed since before them
 fails_before : (names : List ℕ → Type 0) (before mid after : ShelfView) (name bytes : List ℕ) → OnlyReads names before mid → FailsToWrite mid after name bytes → FailsToWrite before after name bytes
-fails_before names before mid after name bytes only f = record {
-  rose = let e = only.writes name in let h = f.rose in omega (arith, e, h);
-  unpromised = λ h. f.unpromised (only.writes_kept name (length bytes) h);
-  contents = subst (λ c. IsCutOff name bytes c after.contents) only.contents f.contents;
+fails_before names before mid after name bytes effect f = record {
+  rose = let e = effect.writes name in let h = f.rose in omega (arith, e, h);
+  unpromised = λ h. f.unpromised (effect.writes_kept name (length bytes) h);
+  contents = subst (λ c. IsCutOff name bytes c after.contents) effect.contents f.contents;
 }
 
 put_by : (text : List ℕ) (status result : ℕ) (before after : SinkView) → Prints text status before after result → IsPut text before after
@@ -117,12 +117,12 @@ status_by : (text : List ℕ) (result : ℕ) (before after : SinkView) → Print
 status_by text result before after (delivery.whole taken counted r) = r
 status_by text result before after (delivery.cut taken counted r unpromised) = r
 
-module _ (form : Option Form) (before after : World) (mid : ShelfView) (r : Report) (names : List ℕ → Type 0) (result : ℕ) (answers : Answers before.shelf.contents (asking_for form) (reported r)) (only : OnlyReads names before.shelf mid) (searched : IfSome r.recipes IsSearchable) where
+module _ (form : Option Form) (before after : World) (mid : ShelfView) (r : Report) (names : List ℕ → Type 0) (result : ℕ) (answers : Answers before.shelf.contents (asking_for form) (reported r)) (effect : OnlyReads names before.shelf mid) (searched : IfSome r.recipes IsSearchable) where
   ended_printed : IsWritten r.written mid after.shelf → Prints r.text (conclusion_status r.conclusion) before.sink after.sink result → Ended form before after result
   ended_printed w (delivery.whole taken counted e) =
-      ended.spoke (reported r) (inl answers) e (record { taken = taken; counted = counted; contents = written_files r.written before.shelf mid after.shelf only.contents w }) searched
+      ended.spoke (reported r) (inl answers) e (record { taken = taken; counted = counted; contents = written_files r.written before.shelf mid after.shelf effect.contents w }) searched
   ended_printed w (delivery.cut taken counted e unpromised) =
-      ended.cut_off (reported r) (inl answers) e (record { taken = taken; counted = counted; contents = written_files r.written before.shelf mid after.shelf only.contents w }) unpromised
+      ended.cut_off (reported r) (inl answers) e (record { taken = taken; counted = counted; contents = written_files r.written before.shelf mid after.shelf effect.contents w }) unpromised
 
   ended_delivered : (file : Option (List ℕ × List ℕ)) (text : List ℕ) (status : ℕ) → file ≡ r.written → text ≡ r.text → status ≡ conclusion_status r.conclusion
       → Delivers file text status (world mid before.sink) after result → Ended form before after result
@@ -130,14 +130,14 @@ module _ (form : Option Form) (before after : World) (mid : ShelfView) (r : Repo
       ended_printed (subst (λ x. IsWritten x mid after.shelf) f w)
       (subst (λ x. Prints x (conclusion_status r.conclusion) before.sink after.sink result) t (subst (λ x. Prints text x before.sink after.sink result) s p))
   ended_delivered file text status f t s (delivery.spoiled name bytes e fails changed p) =
-      ended.spoiled r name bytes answers (sym f ∙ e) (status_by _ result before.sink after.sink p) (fails_before names before.shelf mid after.shelf name bytes only fails) (put_by _ _ result before.sink after.sink p)
+      ended.spoiled r name bytes answers (sym f ∙ e) (status_by _ result before.sink after.sink p) (fails_before names before.shelf mid after.shelf name bytes effect fails) (put_by _ _ result before.sink after.sink p)
 
 -- a report that was delivered after the reads ends the call
 pub ended_report : (form : Option Form) (before after : World) (mid : ShelfView) (r : Report) (file : Option (List ℕ × List ℕ)) (text : List ℕ) (status result : ℕ)
     → Reaches (asking_for form) before.shelf mid (reported r) → ReadsDue (asking_for form) before.shelf mid → file ≡ r.written → text ≡ r.text → status ≡ conclusion_status r.conclusion
     → IfSome r.recipes IsSearchable → Delivers file text status (world mid before.sink) after result → Ended form before after result
 ended_report form before after mid r file text status result reached reads f t s searched d =
-    ended_delivered form before after mid r (IsDue before.shelf.contents (asking_for form)) result (reported_answers (asking_for form) before.shelf mid r reached) reads.only searched file text status f t s d
+    ended_delivered form before after mid r (IsDue before.shelf.contents (asking_for form)) result (reported_answers (asking_for form) before.shelf mid r reached) reads.effect searched file text status f t s d
 
 -- ---- what a call changes
 
@@ -155,8 +155,8 @@ writes_none name view = record {
 }
 
 only_read : (names : List ℕ → Type 0) (by : Option (List ℕ)) (before after : ShelfView) → OnlyReads names before after → ChangesFiles names by before after
-only_read names None before after only = only
-only_read names (Some name) before after only = (after, only, (0, writes_none name after))
+only_read names None before after effect = effect
+only_read names (Some name) before after effect = (after, effect, (0, writes_none name after))
 
 put_grows : {text : List ℕ} {status result : ℕ} (before after : SinkView) → Prints text status before after result → before.faults ≤ after.faults
 put_grows before after (delivery.whole taken counted r) = omega (arith, counted)
@@ -165,7 +165,7 @@ put_grows before after (delivery.cut taken counted r unpromised) = counted.0
 -- a call that read due files and printed something
 pub changes_by : {text : List ℕ} {status result : ℕ} (form : Option Form) (before after : World) → ReadsDue (asking_for form) before.shelf after.shelf → Prints text status before.sink after.sink result → Changes form before after
 changes_by form before after reads p = record {
-  only = only_read (IsDue before.shelf.contents (asking_for form)) (written_by form) before.shelf after.shelf reads.only;
+  effect = only_read (IsDue before.shelf.contents (asking_for form)) (written_by form) before.shelf after.shelf reads.effect;
   taken = reads.taken;
   puts = put_grows before.sink after.sink p;
 }
@@ -173,19 +173,19 @@ changes_by form before after reads p = record {
 -- a call that printed nothing
 pub changes_nothing : (form : Option Form) (before after : ShelfView) (sink : SinkView) → ReadsDue (asking_for form) before after → Changes form (world before sink) (world after sink)
 changes_nothing form before after sink reads = record {
-  only = only_read (IsDue before.contents (asking_for form)) (written_by form) before after reads.only;
+  effect = only_read (IsDue before.contents (asking_for form)) (written_by form) before after reads.effect;
   taken = reads.taken;
   puts = omega arith;
 }
 
 written_after : (names : List ℕ → Type 0) (by : Option (List ℕ)) (name bytes : List ℕ) (before mid after : ShelfView) → Some name ≡ by → OnlyReads names before mid → OnlyWrites name (length bytes) mid after → ChangesFiles names by before after
-written_after names None name bytes before mid after e only w = cc
-written_after names (Some own) name bytes before mid after e only w = let same : name ≡ own = cc in (mid, only, (length bytes, subst (λ n. OnlyWrites n (length bytes) mid after) same w))
+written_after names None name bytes before mid after e effect w = cc
+written_after names (Some own) name bytes before mid after e effect w = let same : name ≡ own = cc in (mid, effect, (length bytes, subst (λ n. OnlyWrites n (length bytes) mid after) same w))
 
 module _ (form : Option Form) (before after : World) (mid : ShelfView) (reads : ReadsDue (asking_for form) before.shelf mid) where
   changes_written : {text : List ℕ} {status result : ℕ} (name bytes : List ℕ) → Some name ≡ written_by form → OnlyWrites name (length bytes) mid after.shelf → Prints text status before.sink after.sink result → Changes form before after
   changes_written name bytes own w p = record {
-    only = written_after (IsDue before.shelf.contents (asking_for form)) (written_by form) name bytes before.shelf mid after.shelf own reads.only w;
+    effect = written_after (IsDue before.shelf.contents (asking_for form)) (written_by form) name bytes before.shelf mid after.shelf own reads.effect w;
     taken = λ n. subst (λ k. MayTake before.shelf.contents (asking_for form) n (k - before.shelf.handed n)) (sym (w.handed n)) (reads.taken n);
     puts = put_grows before.sink after.sink p;
   }
@@ -194,7 +194,7 @@ module _ (form : Option Form) (before after : World) (mid : ShelfView) (reads : 
       → Delivers file text status (world mid before.sink) after result → Changes form before after
   changes_report None text status result own (delivery.printed w p) =
       changes_by form before after (subst (λ v. ReadsDue (asking_for form) before.shelf v) (sym w) reads) p
-  changes_report (Some f) text status result own (delivery.printed w p) = changes_written f.0 f.1 (own f.0 f.1 refl) w.only p
+  changes_report (Some f) text status result own (delivery.printed w p) = changes_written f.0 f.1 (own f.0 f.1 refl) w.effect p
   changes_report file text status result own (delivery.spoiled name bytes e fails changed p) = changes_written name bytes (own name bytes e) changed p
 
 -- ---- a file that could not be written
@@ -208,4 +208,4 @@ spoiled_by name bytes text status result before after r e is w p =
       rose = failed.counted.1;
       unpromised = λ h. let Q : ℕ → Type 0 = λ k. IsTrue (before.shelf.writes_promised name k) in false≢true (failed.promised 0 (subst Q (zero_more (length bytes)) h));
       contents = failed.contents;
-    }) failed.only p
+    }) failed.effect p

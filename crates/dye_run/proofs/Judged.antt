@@ -41,24 +41,24 @@ cert_input asking judged before after (Err why) step text from_files gives same 
 unreadable_second : (curves weights : List ℕ) (before mid after : ShelfView) (bytes_read : Option (List ℕ)) (why : Option Outcome) → OnlyReads (λ n. n ≡ curves) before mid → CanBeRead before.contents curves table_limit bytes_read
     → IfSome why (λ o. (o ≡ unreadable weights) × FailsToRead mid after weights)
     → (judged : Tables → Result spec.Report Fault) → IfSome why (λ o. Reaches (asks_tables curves weights judged) before after o)
-unreadable_second curves weights before mid after bytes_read (Some o) only from_files stops = λ judged.
+unreadable_second curves weights before mid after bytes_read (Some o) effect from_files stops = λ judged.
     inr (
       weights,
       record {
         due = inr (bytes_read, from_files, inl refl);
         failed = record {
-          rose = let g = only.grows weights in let f = stops.1.rose in omega (arith, g, f);
-          unpromised = λ h. stops.1.unpromised (only.reads_kept weights h).0;
+          rose = let g = effect.grows weights in let f = stops.1.rose in omega (arith, g, f);
+          unpromised = λ h. stops.1.unpromised (effect.reads_kept weights h).0;
         };
       },
       stops.0,
     )
-unreadable_second curves weights before mid after bytes_read None only from_files stops = λ judged. tt
+unreadable_second curves weights before mid after bytes_read None effect from_files stops = λ judged. tt
 
 -- the second of two due files could not be read
 pub stops_second : (curves weights : List ℕ) (before mid after : ShelfView) (bytes_read : Option (List ℕ)) (why : Stop) → OnlyReads (λ n. n ≡ curves) before mid → CanBeRead before.contents curves table_limit bytes_read → StopsAt weights mid after why
     → (judged : Tables → Result spec.Report Fault) → Stops (asks_tables curves weights judged) before after why
-stops_second curves weights before mid after bytes_read why only from_files stops = unreadable_second curves weights before mid after bytes_read (stop_outcome why) only from_files stops
+stops_second curves weights before mid after bytes_read why effect from_files stops = unreadable_second curves weights before mid after bytes_read (stop_outcome why) effect from_files stops
 
 -- the refusal that a command stops with is its outcome
 pub reached_by : (asking : Asking) (before after : ShelfView) (why : Stop) (refusal : Refusal) → Some (refusal_outcome refusal) ≡ stop_outcome why → Stops asking before after why → Reaches asking before after (refusal_outcome refusal)

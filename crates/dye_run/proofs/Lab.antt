@@ -6,7 +6,7 @@ use Rattle.dye_run.specs.Lab.{lab_evaluations}
 use Rattle.dye_run.proofs.Colours.{curve_lab_encloses}
 use Rattle.dye_run.proofs.CoordinateLaws.{three_stand}
 
-pub lab_stands : (light : WeightTable) (curve : List ℕ) → All StandsFiner (lab_evaluations light curve)
-lab_stands light curve =
-    let keeps = λ (m : ℕ) (some : 0 < m). curve_lab_encloses base_unit m light curve some in
+pub lab_stands : (weights : WeightTable) (curve : List ℕ) → All StandsFiner (lab_evaluations weights curve)
+lab_stands weights curve =
+    let keeps = λ (m : ℕ) (some : 0 < m). curve_lab_encloses base_unit m weights curve some in
     three_stand _ _ _ _ _ _ (λ m some. (keeps m some).l) (λ m some. (keeps m some).a) (λ m some. (keeps m some).b)

@@ -24,15 +24,15 @@ goes_nowhere asking view = record { answers = λ o w. w; due = λ n d. d; reads 
 -- one due file has been read
 pub goes_on : (name : List ℕ) (limit : ℕ) (next : Option (List ℕ) → Asking) (bytes_read : Option (List ℕ)) (before now : ShelfView) → OnlyReads (λ n. n ≡ name) before now → HandsOut name (limit + 1) before now → CanBeRead before.contents name limit bytes_read
     → GoesOn (asks name limit next) (next bytes_read) before now
-goes_on name limit next bytes_read before now only handed from_files =
+goes_on name limit next bytes_read before now effect handed from_files =
     let ByAnswer : Outcome → Option Contents → Type 0 = λ o contents. Answers contents (next bytes_read) o in
     let ByName : List ℕ → Option Contents → Type 0 = λ n contents. IsDue contents (next bytes_read) n in
     record {
-      answers = λ o w. (bytes_read, from_files, subst (ByAnswer o) only.contents w);
-      due = λ n d. inr (bytes_read, from_files, subst (ByName n) only.contents d);
-      reads = λ after r. then_read name limit next bytes_read before now after only handed from_files r;
-      grows = only.grows;
-      kept = λ n h. (only.reads_kept n h).0;
+      answers = λ o w. (bytes_read, from_files, subst (ByAnswer o) effect.contents w);
+      due = λ n d. inr (bytes_read, from_files, subst (ByName n) effect.contents d);
+      reads = λ after r. then_read name limit next bytes_read before now after effect handed from_files r;
+      grows = effect.grows;
+      kept = λ n h. (effect.reads_kept n h).0;
     }
 
 -- some files have been read, and then others
@@ -78,14 +78,14 @@ unreadable_by name limit next before after None s = tt
 -- the first due file could not be read
 pub stops_first : (name : List ℕ) (limit : ℕ) (next : Option (List ℕ) → Asking) (before after : ShelfView) (why : Stop) → OnlyReads (λ n. n ≡ name) before after → HandsOut name (limit + 1) before after → StopsAt name before after why
     → StopsHaving (asks name limit next) before after why
-stops_first name limit next before after why only handed s = record { stops = unreadable_by name limit next before after (stop_outcome why) s; reads = first_read name limit next before after only handed }
+stops_first name limit next before after why effect handed s = record { stops = unreadable_by name limit next before after (stop_outcome why) s; reads = first_read name limit next before after effect handed }
 
 -- memory ran out after a due file had been read
 pub stops_after : (name : List ℕ) (limit : ℕ) (next : Option (List ℕ) → Asking) (before after : ShelfView) (why : Stop) → OnlyReads (λ n. n ≡ name) before after → HandsOut name (limit + 1) before after → stop_outcome why ≡ None
     → StopsHaving (asks name limit next) before after why
-stops_after name limit next before after why only handed none = record {
+stops_after name limit next before after why effect handed none = record {
   stops = let P : Option Outcome → Type 0 = λ w. IfSome w (λ o. Reaches (asks name limit next) before after o) in subst P (sym none) tt;
-  reads = first_read name limit next before after only handed;
+  reads = first_read name limit next before after effect handed;
 }
 
 -- ---- files of tables, one after the other
@@ -116,25 +116,25 @@ module _ (asking : Asking) (names : List (List ℕ)) (k : ℕ) (bytes_read : Lis
   pub files_more : (first : Option (List ℕ)) (more : List (Option (List ℕ))) → k < length names → name ≡ get_or names k [] → more ≡ bytes_read ++ first ∷ []
       → OnlyReads (λ n. n ≡ name) mid now → HandsOut name (table_limit + 1) mid now → CanBeRead mid.contents name table_limit first
       → GoesOn asking (asks_from names k bytes_read next) before mid → GoesOn asking (asks_from names (k + 1) more next) before now
-  files_more first more h is grown only handed from_files g =
+  files_more first more h is grown effect handed from_files g =
       let rest : Option (List ℕ) → Asking = λ first. asks_from names (k + 1) (bytes_read ++ first ∷ []) next in
-      let one : GoesOn (asks name table_limit rest) (rest first) mid now = goes_on name table_limit rest first mid now only handed from_files in
+      let one : GoesOn (asks name table_limit rest) (rest first) mid now = goes_on name table_limit rest first mid now effect handed from_files in
       let both : GoesOn asking (rest first) before now = goes_further asking (asks name table_limit rest) (rest first) before mid now (subst (λ a. GoesOn asking a before mid) (here h is) g) one in
       subst (λ m. GoesOn asking (asks_from names (k + 1) m next) before now) (sym grown) both
 
   -- it could not be read
   pub files_stop : (why : Stop) → k < length names → name ≡ get_or names k [] → OnlyReads (λ n. n ≡ name) mid now → HandsOut name (table_limit + 1) mid now → StopsAt name mid now why
       → GoesOn asking (asks_from names k bytes_read next) before mid → StopsHaving asking before now why
-  files_stop why h is only handed s g =
+  files_stop why h is effect handed s g =
       let rest : Option (List ℕ) → Asking = λ first. asks_from names (k + 1) (bytes_read ++ first ∷ []) next in
-      having_from asking (asks name table_limit rest) before mid now why (subst (λ a. GoesOn asking a before mid) (here h is) g) (stops_first name table_limit rest mid now why only handed s)
+      having_from asking (asks name table_limit rest) before mid now why (subst (λ a. GoesOn asking a before mid) (here h is) g) (stops_first name table_limit rest mid now why effect handed s)
 
   -- memory ran out after it had been read
   pub files_after : (why : Stop) → k < length names → name ≡ get_or names k [] → OnlyReads (λ n. n ≡ name) mid now → HandsOut name (table_limit + 1) mid now → stop_outcome why ≡ None
       → GoesOn asking (asks_from names k bytes_read next) before mid → StopsHaving asking before now why
-  files_after why h is only handed none g =
+  files_after why h is effect handed none g =
       let rest : Option (List ℕ) → Asking = λ first. asks_from names (k + 1) (bytes_read ++ first ∷ []) next in
-      having_from asking (asks name table_limit rest) before mid now why (subst (λ a. GoesOn asking a before mid) (here h is) g) (stops_after name table_limit rest mid now why only handed none)
+      having_from asking (asks name table_limit rest) before mid now why (subst (λ a. GoesOn asking a before mid) (here h is) g) (stops_after name table_limit rest mid now why effect handed none)
 
 -- all have been read
 pub files_all : (asking : Asking) (names : List (List ℕ)) (k : ℕ) (bytes_read : List (Option (List ℕ))) (next : List (Option (List ℕ)) → Asking) (before now : ShelfView) → length names ≤ k
@@ -146,9 +146,9 @@ files_all asking names k bytes_read next before now h g = subst (λ a. GoesOn as
 abbrev pub asks_after : List ℕ → List (List ℕ) → (Option (List ℕ) → List (Option (List ℕ)) → Asking) → Asking
 asks_after curves names finish = asks curves table_limit (λ bytes_read. asks_each names (finish bytes_read))
 
-module _ (curves name : List ℕ) (same : curves ≡ name) (names files : List (List ℕ)) (equal : names ≡ files) (finish : Option (List ℕ) → List (Option (List ℕ)) → Asking) (bytes_read : Option (List ℕ)) (before mid after : ShelfView) (only : OnlyReads (λ n. n ≡ curves) before mid) (handed : HandsOut curves (table_limit + 1) before mid) (from_files : CanBeRead before.contents curves table_limit bytes_read) where
+module _ (curves name : List ℕ) (same : curves ≡ name) (names files : List (List ℕ)) (equal : names ≡ files) (finish : Option (List ℕ) → List (Option (List ℕ)) → Asking) (bytes_read : Option (List ℕ)) (before mid after : ShelfView) (effect : OnlyReads (λ n. n ≡ curves) before mid) (handed : HandsOut curves (table_limit + 1) before mid) (from_files : CanBeRead before.contents curves table_limit bytes_read) where
   curves_go_on : GoesOn (asks_after curves names finish) (asks_each names (finish bytes_read)) before mid
-  curves_go_on = goes_on curves table_limit (λ c. asks_each names (finish c)) bytes_read before mid only handed from_files
+  curves_go_on = goes_on curves table_limit (λ c. asks_each names (finish c)) bytes_read before mid effect handed from_files
 
   -- one of the others stopped the command
   pub rest_stops : (why : Stop) → StopsHaving (asks_each names (finish bytes_read)) mid after why → StopsHaving (asks_after name files finish) before after why
@@ -171,6 +171,6 @@ stops_owned asking before after why owned (inr none) s = let P : Option Outcome 
 pub accepted : (rule : BatchRule) (name : List ℕ) (next : Values → Asking) (bytes_read : Option (List ℕ)) (j : Values) (before now : ShelfView) → job_from rule name bytes_read ≡ Ok j
     → OnlyReads (λ n. n ≡ name) before now → HandsOut name (job_limit + 1) before now → CanBeRead before.contents name job_limit bytes_read
     → GoesOn (asks_accepted rule name next) (next j) before now
-accepted rule name next bytes_read j before now is only handed from_files =
-    let onwards : GoesOn (asks_accepted rule name next) (unless_faulty_job (job_from rule name bytes_read) next) before now = goes_on name job_limit (λ c. unless_faulty_job (job_from rule name c) next) bytes_read before now only handed from_files in
+accepted rule name next bytes_read j before now is effect handed from_files =
+    let onwards : GoesOn (asks_accepted rule name next) (unless_faulty_job (job_from rule name bytes_read) next) before now = goes_on name job_limit (λ c. unless_faulty_job (job_from rule name c) next) bytes_read before now effect handed from_files in
     subst (λ r. GoesOn (asks_accepted rule name next) (unless_faulty_job r next) before now) is onwards

@@ -47,5 +47,5 @@ MayTake contents (asks first limit next) name count =
 
 -- only due files were read, and of each at most one byte more than its limit
 pub record ReadsDue (asking : Asking) (before after : ShelfView) : Type 0 where
-  pub only : OnlyReads (IsDue before.contents asking) before after
+  pub effect : OnlyReads (IsDue before.contents asking) before after
   pub taken : (n : List ℕ) → MayTake before.contents asking n (after.handed n - before.handed n)

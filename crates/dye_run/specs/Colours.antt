@@ -8,8 +8,8 @@ use Rattle.tristimulus.specs.Ratios.{ratios_at}
 
 -- X/Xn, Y/Yn and Z/Zn of the curve, at scale n
 abbrev pub curve_ratios : WeightTable → List ℕ → ℕ → RatioEnds
-curve_ratios light curve n = ratios_at n (spectrum_at n curve) light
+curve_ratios weights curve n = ratios_at n (spectrum_at n curve) weights
 
 -- L, a and b of the curve, at scale n
 abbrev pub curve_lab : WeightTable → List ℕ → ℕ → LabEnds
-curve_lab light curve n = lab_at n (curve_ratios light curve n)
+curve_lab weights curve n = lab_at n (curve_ratios weights curve n)

@@ -10,4 +10,4 @@ use Rattle.dye_run.specs.Words.{LitColumn}
 unfoldable pub coordinates_report : (WeightTable → List ℕ → List Evaluation) → LitColumn → Tables → Result Report Fault
 coordinates_report evaluations words tables = do
   curve ← curve_from words.curves words.column tables.book
-  Ok (plain_report (evaluations tables.light curve))
+  Ok (plain_report (evaluations tables.weights curve))

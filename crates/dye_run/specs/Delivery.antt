@@ -25,7 +25,7 @@ pub data Prints (text : List ℕ) (status : ℕ) (before after : SinkView) (resu
 -- the file was written whole, and no other file was written
 pub record WritesFile (name bytes : List ℕ) (before after : ShelfView) : Type 0 where
   pub contents : after.contents ≡ option_map (write_bytes name bytes) before.contents
-  pub only : OnlyWrites name (length bytes) before after
+  pub effect : OnlyWrites name (length bytes) before after
 
 abbrev pub IsWritten : Option (List ℕ × List ℕ) → (before after : ShelfView) → Type 0
 IsWritten None before after = after ≡ before

@@ -45,11 +45,11 @@ diff_words words = None
 
 -- the CMC(l:c) difference of two curves, the first of them the standard, at scale n
 abbrev pub curve_difference : (l10 c10 : ℕ) → WeightTable → List ℕ → List ℕ → ℕ → Ends
-curve_difference l10 c10 light standard sample n = cmc_at l10 c10 n (curve_lab light standard n) (curve_lab light sample n)
+curve_difference l10 c10 weights standard sample n = cmc_at l10 c10 n (curve_lab weights standard n) (curve_lab weights sample n)
 
 abbrev pub difference_evaluation : DiffWords → WeightTable → List ℕ → List ℕ → Evaluation
-difference_evaluation words light standard sample =
-    record { label = codes "DE"; at = curve_difference words.l10 words.c10 light standard sample; tolerance = words.tolerance }
+difference_evaluation words weights standard sample =
+    record { label = codes "DE"; at = curve_difference words.l10 words.c10 weights standard sample; tolerance = words.tolerance }
 
 abbrev pub verdict_name : Verdict → List ℕ
 verdict_name Pass = codes "pass"
@@ -73,4 +73,4 @@ unfoldable pub diff_report : DiffWords → Tables → Result Report Fault
 diff_report words tables = do
   standard ← curve_from words.curves words.standard tables.book
   sample ← curve_from words.curves words.sample tables.book
-  Ok (difference_report words.tolerance (difference_evaluation words tables.light standard sample))
+  Ok (difference_report words.tolerance (difference_evaluation words tables.weights standard sample))

@@ -122,6 +122,6 @@ ChangesFiles names (Some name) before after = (mid : ShelfView) × OnlyReads nam
 -- What a call changes: the shelf by reads of due files, of each at most one byte more than its limit, and by writes of the
 -- file that the command writes; and the sink's count of failures does not fall
 pub record Changes (form : Option Form) (before after : World) : Type 0 where
-  pub only : ChangesFiles (IsDue before.shelf.contents (asking_for form)) (written_by form) before.shelf after.shelf
+  pub effect : ChangesFiles (IsDue before.shelf.contents (asking_for form)) (written_by form) before.shelf after.shelf
   pub taken : (n : List ℕ) → MayTake before.shelf.contents (asking_for form) n (after.shelf.handed n - before.shelf.handed n)
   pub puts : before.sink.faults ≤ after.sink.faults

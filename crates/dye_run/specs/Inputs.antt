@@ -39,14 +39,14 @@ curve_from name column book = unless_missing name column (curve_named column boo
 -- the curves of one file and the weights of another
 pub record Tables : Type 0 where
   pub book : Book
-  pub light : WeightTable
+  pub weights : WeightTable
 
 -- both, from the bytes read: a fault of the curves is named before one of the weights
 unfoldable pub tables_from : (curves weights : List ℕ) → (curves_bytes weights_bytes : Option (List ℕ)) → Result Tables Fault
 tables_from curves weights curves_bytes weights_bytes = do
   book ← table_from curve_table_of curves curves_bytes
-  light ← table_from weight_table_of weights weights_bytes
-  Ok (record { book = book; light = light })
+  table ← table_from weight_table_of weights weights_bytes
+  Ok (record { book = book; weights = table })
 
 -- a curve file is due, and judged when it has been read
 abbrev pub asks_book : List ℕ → (Book → Result Report Fault) → Asking

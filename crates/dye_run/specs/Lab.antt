@@ -5,8 +5,8 @@ use Rattle.dye_run.specs.Answers.{Evaluation, evaluation}
 use Rattle.dye_run.specs.Colours.{curve_lab}
 
 abbrev pub lab_evaluations : WeightTable → List ℕ → List Evaluation
-lab_evaluations light curve =
-    evaluation (codes "L") (λ n. (curve_lab light curve n).l)
-    ∷ evaluation (codes "a") (λ n. (curve_lab light curve n).a)
-    ∷ evaluation (codes "b") (λ n. (curve_lab light curve n).b)
+lab_evaluations weights curve =
+    evaluation (codes "L") (λ n. (curve_lab weights curve n).l)
+    ∷ evaluation (codes "a") (λ n. (curve_lab weights curve n).a)
+    ∷ evaluation (codes "b") (λ n. (curve_lab weights curve n).b)
     ∷ []

@@ -59,7 +59,7 @@ form_view (code.Demo d) = demo d.0.number
 
 -- the curves and the weights that were read
 abbrev pub tables_view : Tables → inputs.Tables
-tables_view tables = record { book = tables.book; light = tables.light }
+tables_view tables = record { book = tables.book; weights = tables.weights }
 
 -- the bytes that were read from a file, or None where there were too many
 abbrev pub bytes_view : Option (Vec ℕ) → Option (List ℕ)

@@ -5,8 +5,8 @@ use Rattle.dye_run.specs.Answers.{Evaluation, evaluation}
 use Rattle.dye_run.specs.Colours.{curve_ratios}
 
 abbrev pub xyz_evaluations : WeightTable → List ℕ → List Evaluation
-xyz_evaluations light curve =
-    evaluation (codes "X/Xn") (λ n. (curve_ratios light curve n).x)
-    ∷ evaluation (codes "Y/Yn") (λ n. (curve_ratios light curve n).y)
-    ∷ evaluation (codes "Z/Zn") (λ n. (curve_ratios light curve n).z)
+xyz_evaluations weights curve =
+    evaluation (codes "X/Xn") (λ n. (curve_ratios weights curve n).x)
+    ∷ evaluation (codes "Y/Yn") (λ n. (curve_ratios weights curve n).y)
+    ∷ evaluation (codes "Z/Zn") (λ n. (curve_ratios weights curve n).z)
     ∷ []

@@ -12,26 +12,31 @@ use spectral_tables::{Curve, Weights};
 use tristimulus::ratios;
 
 /// The tristimulus ratios of a curve under a light.
-pub(crate) fn curve_ratios(light: &Weights, curve: &Curve) -> Ratios<Base>
-    ensures { ratio_ends result ≡ curve_ratios light.now curve.now (10 ^ 12) }
+pub(crate) fn curve_ratios(weights: &Weights, curve: &Curve) -> Ratios<Base>
+    ensures { ratio_ends result ≡ curve_ratios weights.now curve.now (10 ^ 12) }
 {
     let sample = curve.spectrum();
-    ratios(&sample, light)
+    ratios(&sample, weights)
 }
 
 /// The CIELAB coordinates of a curve under a light.
-pub(crate) fn colour(light: &Weights, curve: &Curve) -> Lab<Base>
-    ensures { lab_ends result ≡ curve_lab light.now curve.now (10 ^ 12) }
+pub(crate) fn colour(weights: &Weights, curve: &Curve) -> Lab<Base>
+    ensures { lab_ends result ≡ curve_lab weights.now curve.now (10 ^ 12) }
 {
-    lab(&curve_ratios(light, curve))
+    lab(&curve_ratios(weights, curve))
 }
 
 /// The CMC(l:c) difference of a sample from a standard under a light.
-pub(crate) fn difference(rule: &Cmc, light: &Weights, standard: &Curve, sample: &Curve) -> Iv<Base>
+pub(crate) fn difference(
+    rule: &Cmc,
+    weights: &Weights,
+    standard: &Curve,
+    sample: &Curve,
+) -> Iv<Base>
     ensures is { result
-        ≡ curve_difference rule.now.l10 rule.now.c10 light.now standard.now sample.now (10 ^ 12) }
+        ≡ curve_difference rule.now.l10 rule.now.c10 weights.now standard.now sample.now (10 ^ 12) }
     ensures held { IsHeld result }
 {
-    let kept = rule.keep(&colour(light, standard));
-    delta(rule, &kept, &colour(light, sample))
+    let kept = rule.keep(&colour(weights, standard));
+    delta(rule, &kept, &colour(weights, sample))
 }

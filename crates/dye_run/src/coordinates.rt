@@ -23,9 +23,9 @@ pub(crate) trait Coordinates: Copy {
     ghost evaluations: { Self → WeightTable → List ℕ → List Evaluation };
 
     /// A line for each of them.
-    fn text(self, alloc: Global, light: &Weights, curve: &Curve) -> Result<Vec<u8>, AllocError>
+    fn text(self, alloc: Global, weights: &Weights, curve: &Curve) -> Result<Vec<u8>, AllocError>
         ensures { IfOk result (λ text.
-            text.items ≡ lines_of (evaluations self light.now curve.now)) };
+            text.items ≡ lines_of (evaluations self weights.now curve.now)) };
 }
 
 /// A column, and which coordinates are reported of it.
@@ -50,7 +50,7 @@ impl<'a, C: Coordinates> Inquiry<'a> for ColumnReport<'a, C> {
     fn report(self, alloc: Global, tables: &Tables) -> Result<Report<'a>, Stop<'a>> {
         let ColumnReport(words, coordinates) = self;
         let curve = curve_from(words.curves, words.column, &tables.book)?;
-        let text = coordinates.text(alloc, &tables.light, curve)?;
+        let text = coordinates.text(alloc, &tables.weights, curve)?;
         Ok(plain_report(text))
     }
 }

@@ -31,7 +31,7 @@ pub(crate) fn due<'a, H: Shelf>(
         CanBeRead (H.view shelf.old).contents name.now limit
         (option_map (λ bytes. bytes.items) bytes_read)) }
     ensures stopped { IfErr result (StopsAt name.now (H.view shelf.old) (H.view shelf.new)) }
-    ensures only { OnlyReads (λ n. n ≡ name.now) (H.view shelf.old) (H.view shelf.new) }
+    ensures effect { OnlyReads (λ n. n ≡ name.now) (H.view shelf.old) (H.view shelf.new) }
     ensures handed { HandsOut name.now (limit + 1) (H.view shelf.old) (H.view shelf.new) }
 {
     match take_file(alloc, shelf, name, limit) {
@@ -80,8 +80,11 @@ fn tables_from<'a>(
         (option_map (λ b. b.items) bytes_read.now.weights)) }
 {
     let book = table_from(alloc, curves, bytes_read.curves.as_deref())?;
-    let light = table_from(alloc, weights, bytes_read.weights.as_deref())?;
-    Ok(Tables { book, light })
+    let table = table_from(alloc, weights, bytes_read.weights.as_deref())?;
+    Ok(Tables {
+        book,
+        weights: table,
+    })
 }
 
 /// Reads a curve file and then a weights file, which are both due, and makes their tables.

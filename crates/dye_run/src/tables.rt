@@ -19,7 +19,7 @@ pub(crate) const TABLE_LIMIT: u64 = 1_000_000;
 #[derive(Drop)]
 pub(crate) struct Tables {
     pub book: CurveBook,
-    pub light: Weights,
+    pub weights: Weights,
 }
 
 /// A table that is read from the bytes of one file.

@@ -27,7 +27,7 @@ pub trait Shelf {
     fn read_at(&mut self, name: &str, offset: u64, into: &mut [u8]) -> Result<usize, Failed>
         ensures most { IfOk result (λ count. count ≤ length into.new) }
         ensures bytes { Reads (view self.old).contents name.now offset result into.new }
-        ensures only { OnlyReads (λ n. n ≡ name.now) (view self.old) (view self.new) }
+        ensures effect { OnlyReads (λ n. n ≡ name.now) (view self.old) (view self.new) }
         ensures handed { HandsOut name.now (bytes_given result) (view self.old) (view self.new) }
         ensures counted { CountsFailure (is_err result)
             ((view self.old).read_faults name.now) ((view self.new).read_faults name.now) }
@@ -44,7 +44,7 @@ pub trait Shelf {
 
         ensures contents { Creates name.now result
             (view self.old).contents (view self.new).contents }
-        ensures only { OnlyWrites name.now 0 (view self.old) (view self.new) }
+        ensures effect { OnlyWrites name.now 0 (view self.old) (view self.new) }
         ensures counted { CountsFailure (is_err result)
             ((view self.old).write_faults name.now) ((view self.new).write_faults name.now) }
         ensures promised { (bytes : ℕ) →
@@ -57,7 +57,7 @@ pub trait Shelf {
 
         ensures contents { Adds name.now piece.now result
             (view self.old).contents (view self.new).contents }
-        ensures only { OnlyWrites name.now (length piece.now) (view self.old) (view self.new) }
+        ensures effect { OnlyWrites name.now (length piece.now) (view self.old) (view self.new) }
         ensures counted { CountsFailure (is_err result)
             ((view self.old).write_faults name.now) ((view self.new).write_faults name.now) }
         ensures promised { (more : ℕ) →

@@ -40,7 +40,7 @@ pub fn take_file<H: Shelf>(
     ensures too_long { IsErrOf result TakeFault.TooLong → IfSome (H.view shelf.old).contents
         (λ c. IsSomeAnd (c.file name.now) (λ bytes. limit < length bytes)) }
 
-    ensures only { OnlyReads (λ n. n ≡ name.now) (H.view shelf.old) (H.view shelf.new) }
+    ensures effect { OnlyReads (λ n. n ≡ name.now) (H.view shelf.old) (H.view shelf.new) }
     ensures handed { HandsOut name.now (limit + 1) (H.view shelf.old) (H.view shelf.new) }
     ensures counted { CountsFailure (is_fault result)
         ((H.view shelf.old).read_faults name.now) ((H.view shelf.new).read_faults name.now) }

@@ -127,7 +127,7 @@ impl<'a> Inquiry<'a> for Diff<'a> {
     fn report(self, alloc: Global, tables: &Tables) -> Result<Report<'a>, Stop<'a>> {
         let standard = curve_from(self.curves, self.standard, &tables.book)?;
         let sample = curve_from(self.curves, self.sample, &tables.book)?;
-        let found = difference(&self.rule, &tables.light, standard, sample);
+        let found = difference(&self.rule, &tables.weights, standard, sample);
         let report = difference_report(alloc, self.tolerance, found)?;
         Ok(report)
     }

@@ -15,8 +15,8 @@ pub(crate) struct Lab;
 impl Coordinates for Lab {
     ghost evaluations = { λ _. lab_evaluations };
 
-    fn text(self, alloc: Global, light: &Weights, curve: &Curve) -> Result<Vec<u8>, AllocError> {
-        let lab = colour(light, curve);
+    fn text(self, alloc: Global, weights: &Weights, curve: &Curve) -> Result<Vec<u8>, AllocError> {
+        let lab = colour(weights, curve);
         three_lines(alloc, ("L", lab.l), ("a", lab.a), ("b", lab.b))
     }
 }

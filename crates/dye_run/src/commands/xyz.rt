@@ -15,8 +15,8 @@ pub(crate) struct Xyz;
 impl Coordinates for Xyz {
     ghost evaluations = { λ _. xyz_evaluations };
 
-    fn text(self, alloc: Global, light: &Weights, curve: &Curve) -> Result<Vec<u8>, AllocError> {
-        let ratios = curve_ratios(light, curve);
+    fn text(self, alloc: Global, weights: &Weights, curve: &Curve) -> Result<Vec<u8>, AllocError> {
+        let ratios = curve_ratios(weights, curve);
         three_lines(
             alloc,
             ("X/Xn", ratios.x),

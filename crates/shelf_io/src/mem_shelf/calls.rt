@@ -28,7 +28,7 @@ impl Shelf for MemShelf {
 
         ensures most { IfOk result (λ count. count ≤ length into.new) }
         ensures bytes { Reads (Some (shelf_contents self.old)) name.now offset result into.new }
-        ensures only { OnlyReads (λ n. n ≡ name.now) (shelf_view self.old) (shelf_view self.new) }
+        ensures effect { OnlyReads (λ n. n ≡ name.now) (shelf_view self.old) (shelf_view self.new) }
         ensures handed { HandsOut name.now (bytes_given result)
             (shelf_view self.old) (shelf_view self.new) }
         ensures counted { CountsFailure (is_err result)
@@ -54,7 +54,7 @@ impl Shelf for MemShelf {
 
         ensures contents { Creates name.now result
             (Some (shelf_contents self.old)) (Some (shelf_contents self.new)) }
-        ensures only { OnlyWrites name.now 0 (shelf_view self.old) (shelf_view self.new) }
+        ensures effect { OnlyWrites name.now 0 (shelf_view self.old) (shelf_view self.new) }
         ensures counted { CountsFailure (is_err result)
             (shelf_writes self.old name.now) (shelf_writes self.new name.now) }
         ensures promised { (bytes : ℕ) →
@@ -71,7 +71,7 @@ impl Shelf for MemShelf {
 
         ensures contents { Adds name.now piece.now result
             (Some (shelf_contents self.old)) (Some (shelf_contents self.new)) }
-        ensures only { OnlyWrites name.now (length piece.now)
+        ensures effect { OnlyWrites name.now (length piece.now)
             (shelf_view self.old) (shelf_view self.new) }
         ensures counted { CountsFailure (is_err result)
             (shelf_writes self.old name.now) (shelf_writes self.new name.now) }

@@ -11,7 +11,7 @@ returns-in_default-clause-goes g c =
     let P : List ℕ → Type 0 = λ w. GoesWrong c.args.name.now [] w old new in
     let failed = c.in_default.ensures in
     subst P c.as_slice.ensures.value
-    (wrong_flush c.args.name.now c.as_slice.result.now old new failed.contents failed.only failed.counted (λ more h. false≢true (failed.promised more h)))
+    (wrong_flush c.args.name.now c.as_slice.result.now old new failed.contents failed.effect failed.counted (λ more h. false≢true (failed.promised more h)))
 
 pub returns-clause-goes : goal.returns-clause-goes
 returns-clause-goes g c =
@@ -19,7 +19,7 @@ returns-clause-goes g c =
     let new = g.H.Shelf.view c.append.new.self in
     let P : List ℕ → Type 0 = λ w. GoesOn c.args.name.now [] w old [] new in
     let done = c.in-Ok.ensures in
-    subst P c.as_slice.ensures.value (on_flushed c.args.name.now c.as_slice.result.now old new done.contents done.only done.counted)
+    subst P c.as_slice.ensures.value (on_flushed c.args.name.now c.as_slice.result.now old new done.contents done.effect done.counted)
 
 pub returns-clause-held : goal.returns-clause-held
 returns-clause-held g c =

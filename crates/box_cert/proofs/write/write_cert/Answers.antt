@@ -6,4 +6,4 @@ pub returns : goal.returns
 returns g c =
     let made = c.in-Ok.ensures in
     written c.put_cert.result c.args.name.now (cert_text (content c.args.cert.now)) (g.H.Shelf.view c.args.shelf.now) (g.H.Shelf.view c.create.new.self) (g.H.Shelf.view c.put_cert.new.shelf)
-    made.contents made.only made.counted c.put_cert.ensures
+    made.contents made.effect made.counted c.put_cert.ensures

@@ -32,7 +32,7 @@ returns-in_err-text-clause-input g c = λ judged.
     let mid = g.H.Shelf.view c.read_job_files.new.shelf in
     let after = g.H.Shelf.view c.due.new.shelf in
     let stopped = (having_from (asks_cert_tables j c.args.cert.now judged) (finish curves weights) before mid after c.in_err-text.field-0.0 (c.in_ok-bytes_read.ensures.bytes_read finish)
-    (stops_first c.args.cert.now cert_limit next mid after c.in_err-text.field-0.0 c.in_err-text.ensures.only c.in_err-text.ensures.handed c.in_err-text.ensures.stopped)).stops in
+    (stops_first c.args.cert.now cert_limit next mid after c.in_err-text.field-0.0 c.in_err-text.ensures.effect c.in_err-text.ensures.handed c.in_err-text.ensures.stopped)).stops in
     search rules
 
 pub returns-in_err-text-clause-reads : goal.returns-in_err-text-clause-reads
@@ -46,7 +46,7 @@ returns-in_err-text-clause-reads g c = λ judged.
     let mid = g.H.Shelf.view c.read_job_files.new.shelf in
     let after = g.H.Shelf.view c.due.new.shelf in
     (having_from (asks_cert_tables j c.args.cert.now judged) (finish curves weights) before mid after c.in_err-text.field-0.0 (c.in_ok-bytes_read.ensures.bytes_read finish)
-    (stops_first c.args.cert.now cert_limit next mid after c.in_err-text.field-0.0 c.in_err-text.ensures.only c.in_err-text.ensures.handed c.in_err-text.ensures.stopped)).reads
+    (stops_first c.args.cert.now cert_limit next mid after c.in_err-text.field-0.0 c.in_err-text.ensures.effect c.in_err-text.ensures.handed c.in_err-text.ensures.stopped)).reads
 
 pub returns-clause-input : goal.returns-clause-input
 returns-clause-input g c = λ judged.
@@ -60,7 +60,7 @@ returns-clause-input g c = λ judged.
     let mid = g.H.Shelf.view c.read_job_files.new.shelf in
     let after = g.H.Shelf.view c.due.new.shelf in
     let onwards = goes_further (asks_cert_tables j c.args.cert.now judged) (finish curves weights) (next text) before mid after (c.in_ok-bytes_read.ensures.bytes_read finish)
-    (goes_on c.args.cert.now cert_limit next text mid after c.in_ok-text.ensures.only c.in_ok-text.ensures.handed c.in_ok-text.ensures.from_files) in
+    (goes_on c.args.cert.now cert_limit next text mid after c.in_ok-text.ensures.effect c.in_ok-text.ensures.handed c.in_ok-text.ensures.from_files) in
     input_by (asks_cert_tables j c.args.cert.now judged) judged cert_tables_view before after c.cert_tables_of.result (cert_tables_from j c.args.cert.now curves weights text)
     onwards.answers c.cert_tables_of.ensures.is
 
@@ -76,5 +76,5 @@ returns-clause-reads g c = λ judged.
     let mid = g.H.Shelf.view c.read_job_files.new.shelf in
     let after = g.H.Shelf.view c.due.new.shelf in
     (goes_further (asks_cert_tables j c.args.cert.now judged) (finish curves weights) (next text) before mid after (c.in_ok-bytes_read.ensures.bytes_read finish)
-    (goes_on c.args.cert.now cert_limit next text mid after c.in_ok-text.ensures.only c.in_ok-text.ensures.handed c.in_ok-text.ensures.from_files)).reads
+    (goes_on c.args.cert.now cert_limit next text mid after c.in_ok-text.ensures.effect c.in_ok-text.ensures.handed c.in_ok-text.ensures.from_files)).reads
     after (none_read (outcome_of (cert_tables_from j c.args.cert.now curves weights text >>= judged)) after)

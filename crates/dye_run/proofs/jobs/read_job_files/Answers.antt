@@ -15,14 +15,14 @@ returns-in_err-curves-clause-stopped g c = λ next.
     let before = g.H.Shelf.view c.args.shelf.now in
     let after = g.H.Shelf.view c.due.new.shelf in
     let stopped = subst (λ n. StopsHaving (asks n table_limit rest) before after c.in_err-curves.field-0.0) c.as_str.ensures
-    (stops_first c.as_str.result.now table_limit rest before after c.in_err-curves.field-0.0 c.in_err-curves.ensures.only c.in_err-curves.ensures.handed c.in_err-curves.ensures.stopped) in
+    (stops_first c.as_str.result.now table_limit rest before after c.in_err-curves.field-0.0 c.in_err-curves.ensures.effect c.in_err-curves.ensures.handed c.in_err-curves.ensures.stopped) in
     search rules
 
 pub returns-in_err-weights-clause-stopped : goal.returns-in_err-weights-clause-stopped
 returns-in_err-weights-clause-stopped g c = λ next.
     let j = job_view c.args.job.now in
     let bytes_read = bytes_view c.in_ok-curves.curves in
-    let stopped = rest_stops c.as_str.result.now j.head.curves c.as_str.ensures (map (λ l. l.weights) c.as_slice.result.now) (light_files j) (ap (map (λ l. l.weights)) c.as_slice.ensures.value) next bytes_read (g.H.Shelf.view c.args.shelf.now) (g.H.Shelf.view c.due.new.shelf) (g.H.Shelf.view c.read_lights.new.shelf) c.in_ok-curves.ensures.only c.in_ok-curves.ensures.handed c.in_ok-curves.ensures.from_files
+    let stopped = rest_stops c.as_str.result.now j.head.curves c.as_str.ensures (map (λ l. l.weights) c.as_slice.result.now) (light_files j) (ap (map (λ l. l.weights)) c.as_slice.ensures.value) next bytes_read (g.H.Shelf.view c.args.shelf.now) (g.H.Shelf.view c.due.new.shelf) (g.H.Shelf.view c.read_lights.new.shelf) c.in_ok-curves.ensures.effect c.in_ok-curves.ensures.handed c.in_ok-curves.ensures.from_files
     c.in_err-weights.field-0.0 (c.in_err-weights.ensures.stopped (next bytes_read)) in
     search rules
 
@@ -30,5 +30,5 @@ pub returns-clause-bytes_read : goal.returns-clause-bytes_read
 returns-clause-bytes_read g c = λ next.
     let j = job_view c.args.job.now in
     let bytes_read = bytes_view c.in_ok-curves.curves in
-    rest_goes_on c.as_str.result.now j.head.curves c.as_str.ensures (map (λ l. l.weights) c.as_slice.result.now) (light_files j) (ap (map (λ l. l.weights)) c.as_slice.ensures.value) next bytes_read (g.H.Shelf.view c.args.shelf.now) (g.H.Shelf.view c.due.new.shelf) (g.H.Shelf.view c.read_lights.new.shelf) c.in_ok-curves.ensures.only c.in_ok-curves.ensures.handed c.in_ok-curves.ensures.from_files
+    rest_goes_on c.as_str.result.now j.head.curves c.as_str.ensures (map (λ l. l.weights) c.as_slice.result.now) (light_files j) (ap (map (λ l. l.weights)) c.as_slice.ensures.value) next bytes_read (g.H.Shelf.view c.args.shelf.now) (g.H.Shelf.view c.due.new.shelf) (g.H.Shelf.view c.read_lights.new.shelf) c.in_ok-curves.ensures.effect c.in_ok-curves.ensures.handed c.in_ok-curves.ensures.from_files
     (map bytes_view c.in_ok-weights.weights.items) (c.in_ok-weights.ensures.bytes_read (next bytes_read))

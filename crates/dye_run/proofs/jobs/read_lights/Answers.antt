@@ -13,7 +13,7 @@ returns-in_err-bytes-clause-stopped g c = λ next.
     let names = map (λ l. l.weights) c.args.lights.now in
     let below_end : c.loop-light.light-index < length names = rw length-map (omega arith) in
     let name = file_at c.args.lights.now c.loop-light.light-index c.light-item.result c.as_str.result.now (omega arith) c.light-item.is c.as_str.ensures in
-    let stopped = files_stop (asks_each names next) names c.loop-light.light-index (map bytes_view c.loop-light.bytes_read.items) next c.as_str.result.now (g.H.Shelf.view c.args.shelf.now) (g.H.Shelf.view c.loop-light.shelf) (g.H.Shelf.view c.due.new.shelf) _ below_end name c.in_err-bytes.ensures.only c.in_err-bytes.ensures.handed c.in_err-bytes.ensures.stopped (c.loop-light.invariant.so_far next) in
+    let stopped = files_stop (asks_each names next) names c.loop-light.light-index (map bytes_view c.loop-light.bytes_read.items) next c.as_str.result.now (g.H.Shelf.view c.args.shelf.now) (g.H.Shelf.view c.loop-light.shelf) (g.H.Shelf.view c.due.new.shelf) _ below_end name c.in_err-bytes.ensures.effect c.in_err-bytes.ensures.handed c.in_err-bytes.ensures.stopped (c.loop-light.invariant.so_far next) in
     search rules
 
 pub returns-in_err-push-clause-stopped : goal.returns-in_err-push-clause-stopped
@@ -21,7 +21,7 @@ returns-in_err-push-clause-stopped g c = λ next.
     let names = map (λ l. l.weights) c.args.lights.now in
     let below_end : c.loop-light.light-index < length names = rw length-map (omega arith) in
     let name = file_at c.args.lights.now c.loop-light.light-index c.light-item.result c.as_str.result.now (omega arith) c.light-item.is c.as_str.ensures in
-    let stopped = files_after (asks_each names next) names c.loop-light.light-index (map bytes_view c.loop-light.bytes_read.items) next c.as_str.result.now (g.H.Shelf.view c.args.shelf.now) (g.H.Shelf.view c.loop-light.shelf) (g.H.Shelf.view c.due.new.shelf) stop.Memory below_end name c.in_ok-bytes.ensures.only c.in_ok-bytes.ensures.handed refl (c.loop-light.invariant.so_far next) in
+    let stopped = files_after (asks_each names next) names c.loop-light.light-index (map bytes_view c.loop-light.bytes_read.items) next c.as_str.result.now (g.H.Shelf.view c.args.shelf.now) (g.H.Shelf.view c.loop-light.shelf) (g.H.Shelf.view c.due.new.shelf) stop.Memory below_end name c.in_ok-bytes.ensures.effect c.in_ok-bytes.ensures.handed refl (c.loop-light.invariant.so_far next) in
     search rules
 
 pub loop-light-preserved : goal.loop-light-preserved
@@ -31,7 +31,7 @@ loop-light-preserved g c =
     let name = file_at c.args.lights.now c.loop-light.light-index c.light-item.result c.as_str.result.now (omega arith) c.light-item.is c.as_str.ensures in
     let grown = ap (map bytes_view) c.in_ok-push.ensures.items ∙ map-append bytes_view c.loop-light.bytes_read.items (c.in_ok-bytes.bytes ∷ []) in
     record {
-      so_far = λ next. files_more (asks_each names next) names c.loop-light.light-index (map bytes_view c.loop-light.bytes_read.items) next c.as_str.result.now (g.H.Shelf.view c.args.shelf.now) (g.H.Shelf.view c.loop-light.shelf) (g.H.Shelf.view c.due.new.shelf) (bytes_view c.in_ok-bytes.bytes) (map bytes_view c.push.new.self.items) below_end name grown c.in_ok-bytes.ensures.only c.in_ok-bytes.ensures.handed c.in_ok-bytes.ensures.from_files (c.loop-light.invariant.so_far next);
+      so_far = λ next. files_more (asks_each names next) names c.loop-light.light-index (map bytes_view c.loop-light.bytes_read.items) next c.as_str.result.now (g.H.Shelf.view c.args.shelf.now) (g.H.Shelf.view c.loop-light.shelf) (g.H.Shelf.view c.due.new.shelf) (bytes_view c.in_ok-bytes.bytes) (map bytes_view c.push.new.self.items) below_end name grown c.in_ok-bytes.ensures.effect c.in_ok-bytes.ensures.handed c.in_ok-bytes.ensures.from_files (c.loop-light.invariant.so_far next);
       count = search rules;
       short = rw c.in_ok-push.ensures.items (All-push (λ bytes_read. IfSome bytes_read (λ bytes. length bytes.items ≤ 1000000)) c.loop-light.bytes_read.items c.in_ok-bytes.bytes c.loop-light.invariant.short (short_of 1000000 c.in_ok-bytes.bytes c.in_ok-bytes.ensures.from_files.short));
     }

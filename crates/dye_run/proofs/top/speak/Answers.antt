@@ -30,7 +30,7 @@ returns-in-Some-clause-ended g c =
     ended_by (form_of (map string_bytes c.args.words.now)) (world (g.H.Shelf.view c.args.shelf.now) (g.O.Sink.view c.args.out.now)) (world (g.H.Shelf.view c.answer.new.shelf) (g.O.Sink.view c.refuse.new.out))
     (refusal_outcome refusal) c.refuse.result
     (reached_by (asking_for (form_of (map string_bytes c.args.words.now))) (g.H.Shelf.view c.args.shelf.now) (g.H.Shelf.view c.answer.new.shelf) c.in-Err.stop refusal c.in-Some.ensures c.in-Err.ensures.judged)
-    (refusal_writes refusal) c.in-Err.ensures.reads.only.contents c.refuse.ensures (refusal_searched refusal)
+    (refusal_writes refusal) c.in-Err.ensures.reads.effect.contents c.refuse.ensures (refusal_searched refusal)
 
 pub returns-in-Some-clause-changes : goal.returns-in-Some-clause-changes
 returns-in-Some-clause-changes g c =

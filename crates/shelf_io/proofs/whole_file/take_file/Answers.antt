@@ -25,9 +25,9 @@ loop-buffer-preserved g c =
     let after = g.H.Shelf.view c.read_at.new.self in
     record {
       prefix =
-          step_prefix _ _ _ _ _ (drop c.if-left.size c.loop-buffer.buffer) _ _ _ c.loop-buffer.invariant.only.contents (grind (arith, common_steps)) c.in-Ok.ensures.most grown c.loop-buffer.invariant.prefix c.in-Ok.ensures.bytes;
+          step_prefix _ _ _ _ _ (drop c.if-left.size c.loop-buffer.buffer) _ _ _ c.loop-buffer.invariant.effect.contents (grind (arith, common_steps)) c.in-Ok.ensures.most grown c.loop-buffer.invariant.prefix c.in-Ok.ensures.bytes;
       most = short c.args.limit (vec_len c.loop-buffer.bytes) c.in-Ok.count (vec_len c.extend_from_slice.new.self) (grind (arith, common_steps)) (omega (arith, few, asked, most)) size;
-      only = reads_then _ start before after c.loop-buffer.invariant.only c.in-Ok.ensures.only;
+      effect = reads_then _ start before after c.loop-buffer.invariant.effect c.in-Ok.ensures.effect;
       handed = hands_most c.args.name.now (vec_len c.loop-buffer.bytes + c.in-Ok.count) (vec_len c.extend_from_slice.new.self) start after (omega (arith, size)) (hands_then c.args.name.now (vec_len c.loop-buffer.bytes) c.in-Ok.count start before after c.loop-buffer.invariant.handed c.in-Ok.ensures.handed);
       stands = c.in-Ok.ensures.counted ∙ c.loop-buffer.invariant.stands;
     }

@@ -8,7 +8,7 @@ abbrev pub invariant-loop-buffer : goal.invariant-loop-buffer
 invariant-loop-buffer g l = record {
   prefix : IsKnownPrefix (g.H.Shelf.view l.fn.shelf).contents l.name l.bytes.items;
   most : vec_len l.bytes ≤ l.limit + 1;
-  only : OnlyReads (λ n. n ≡ l.name) (g.H.Shelf.view l.fn.shelf) (g.H.Shelf.view l.shelf);
+  effect : OnlyReads (λ n. n ≡ l.name) (g.H.Shelf.view l.fn.shelf) (g.H.Shelf.view l.shelf);
   handed : HandsOut l.name (vec_len l.bytes) (g.H.Shelf.view l.fn.shelf) (g.H.Shelf.view l.shelf);
   stands : (g.H.Shelf.view l.shelf).read_faults l.name ≡ (g.H.Shelf.view l.fn.shelf).read_faults l.name;
 }

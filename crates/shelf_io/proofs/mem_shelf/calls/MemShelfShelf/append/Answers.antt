@@ -9,8 +9,8 @@ add-requires c = c.requires (shelf_contents c.args.self.now) refl
 pub returns-clause-contents : goal.returns-clause-contents
 returns-clause-contents c = append_contents c.args.self.now c.add.new.self c.args.name.now c.args.piece.now c.add.result c.add.ensures.after c.add.ensures.exact
 
-pub returns-clause-only : goal.returns-clause-only
-returns-clause-only c = append_only c.args.self.now c.add.new.self c.args.name.now c.args.piece.now c.add.ensures.after
+pub returns-clause-effect : goal.returns-clause-effect
+returns-clause-effect c = append_only c.args.self.now c.add.new.self c.args.name.now c.args.piece.now c.add.ensures.after
 
 pub returns-clause-counted : goal.returns-clause-counted
 returns-clause-counted c = append_counted c.args.self.now c.add.new.self c.args.name.now c.args.piece.now c.add.result c.add.ensures.after (c.requires (shelf_contents c.args.self.now) refl) c.add.ensures.exact

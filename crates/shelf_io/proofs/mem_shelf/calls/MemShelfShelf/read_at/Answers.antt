@@ -1,8 +1,8 @@
 use Rattle.shelf_io.proofs.ReadKeeps.{read_counted, read_handed, read_only, read_promised}
 use Rattle.shelf_io.proofs.mem_shelf.calls.MemShelfShelf.read_at.Goals as goal
 
-pub returns-clause-only : goal.returns-clause-only
-returns-clause-only c = read_only _ _ c.args.name.now _ _ c.read.ensures.after
+pub returns-clause-effect : goal.returns-clause-effect
+returns-clause-effect c = read_only _ _ c.args.name.now _ _ c.read.ensures.after
 
 pub returns-clause-handed : goal.returns-clause-handed
 returns-clause-handed c = read_handed _ _ c.args.name.now _ _ c.read.result c.read.ensures.after c.read.ensures.exact c.read.ensures.size
