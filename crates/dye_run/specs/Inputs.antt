@@ -45,8 +45,8 @@ pub record Tables : Type 0 where
 unfoldable pub tables_from : (curves weights : List ℕ) → (curves_bytes weights_bytes : Option (List ℕ)) → Result Tables Fault
 tables_from curves weights curves_bytes weights_bytes = do
   book ← table_from curve_table_of curves curves_bytes
-  table ← table_from weight_table_of weights weights_bytes
-  Ok (record { book = book; weights = table })
+  weights_of_file ← table_from weight_table_of weights weights_bytes
+  Ok (record { book = book; weights = weights_of_file })
 
 -- a curve file is due, and judged when it has been read
 abbrev pub asks_book : List ℕ → (Book → Result Report Fault) → Asking
