@@ -33,6 +33,34 @@ pub(crate) fn job(
     format!(in alloc; "version = 1\nsubstrate = \"p50\"\n{top}{lights}{first}{second}{end}")
 }
 
+/// The files of a job with two lights.
+#[derive(Drop)]
+pub(crate) struct TwoLights {
+    pub curves: String,
+    pub first: String,
+    pub second: String,
+    pub job: String,
+}
+
+/// A job of which U dyes only half of the wavelengths, and the second light has weights only at the
+/// other half.
+pub(crate) fn two_lights(alloc: Global) -> Result<TwoLights, AllocError> {
+    let curves = halves(alloc, "nm,p50,p30,half", 540, "50,30,30", "50,30,50", "")?;
+    let end = "white,15,15,15\n";
+    let first = halves(alloc, LIGHT_HEADER, 540, ONES, "0,0,0", end)?;
+    let second = halves(alloc, LIGHT_HEADER, 550, "0,0,0", ONES, end)?;
+    let top = "curves = \"two.csv\"\nstandard = \"p30\"\n";
+    let lights = "[[light]]\nweights = \"w1.csv\"\ntolerance = 10\n\
+        [[light]]\nweights = \"w2.csv\"\ntolerance = 10\n";
+    let job = job(alloc, top, lights, ("1", "half"), "3", "")?;
+    Ok(TwoLights {
+        curves,
+        first,
+        second,
+        job,
+    })
+}
+
 /// The status and the last line of an answer.
 fn end_of<'a>(text: &'a str) -> (&'a str, &'a str) {
     let status = text.split_once(' ').unwrap_or((text, "")).0;
@@ -112,23 +140,15 @@ fn names_limits(rt: HostRuntime) -> Result<(), Fail> {
     Ok(())
 }
 
-// U dyes only half of the wavelengths; the second light has weights only at the other half.
 #[test]
 fn judges_under_two_lights(rt: HostRuntime) -> Result<(), Fail> {
     let alloc = rt.alloc();
-    let curves = halves(alloc, "nm,p50,p30,half", 540, "50,30,30", "50,30,50", "")?;
-    let end = "white,15,15,15\n";
-    let first = halves(alloc, LIGHT_HEADER, 540, ONES, "0,0,0", end)?;
-    let second = halves(alloc, LIGHT_HEADER, 550, "0,0,0", ONES, end)?;
-    let top = "curves = \"two.csv\"\nstandard = \"p30\"\n";
-    let lights = "[[light]]\nweights = \"w1.csv\"\ntolerance = 10\n\
-        [[light]]\nweights = \"w2.csv\"\ntolerance = 10\n";
-    let job = job(alloc, top, lights, ("1", "half"), "3", "")?;
+    let two = two_lights(alloc)?;
     let files = [
-        ("two.csv", curves.as_bytes()),
-        ("w1.csv", first.as_bytes()),
-        ("w2.csv", second.as_bytes()),
-        ("c.toml", job.as_bytes()),
+        ("two.csv", two.curves.as_bytes()),
+        ("w1.csv", two.first.as_bytes()),
+        ("w2.csv", two.second.as_bytes()),
+        ("c.toml", two.job.as_bytes()),
     ];
     for (word, want) in [("1,0", ("8", "fail")), ("0,1", ("0", "pass"))] {
         let got = answer(&rt, alloc, &["show", "c.toml", word], &files)?;

@@ -1,8 +1,8 @@
 //! `predict`, `correct` and `check`.
 
 use super::calls::{answer, assert_answers, call};
-use super::files::{LIGHT_HEADER, ONES, even_light, flat, halves};
-use super::jobs::{LIGHT, TOP, job};
+use super::files::{even_light, flat};
+use super::jobs::{LIGHT, TOP, job, two_lights};
 use shelf_io::{MemShelf, MemSink};
 use std::alloc::{AllocError, Global};
 use std::process::Abort;
@@ -191,21 +191,14 @@ fn searches_two_dyes(rt: HostRuntime) -> Result<(), Fail> {
 #[test]
 fn searches_under_two_lights(rt: HostRuntime) -> Result<(), Fail> {
     let alloc = rt.alloc();
-    let curves = halves(alloc, "nm,p50,p30,half", 540, "50,30,30", "50,30,50", "")?;
-    let end = "white,15,15,15\n";
-    let first = halves(alloc, LIGHT_HEADER, 540, ONES, "0,0,0", end)?;
-    let second = halves(alloc, LIGHT_HEADER, 550, "0,0,0", ONES, end)?;
-    let top = "curves = \"two.csv\"\nstandard = \"p30\"\n";
-    let lights = "[[light]]\nweights = \"w1.csv\"\ntolerance = 10\n\
-        [[light]]\nweights = \"w2.csv\"\ntolerance = 10\n";
-    let c = job(alloc, top, lights, ("1", "half"), "3", "")?;
+    let two = two_lights(alloc)?;
     let mut shelf = shelf_of(
         alloc,
         &[
-            ("two.csv", curves.as_bytes()),
-            ("w1.csv", first.as_bytes()),
-            ("w2.csv", second.as_bytes()),
-            ("c.toml", c.as_bytes()),
+            ("two.csv", two.curves.as_bytes()),
+            ("w1.csv", two.first.as_bytes()),
+            ("w2.csv", two.second.as_bytes()),
+            ("c.toml", two.job.as_bytes()),
         ],
     )?;
     let mut out = MemSink::empty(alloc, 10_000)?;
