@@ -41,6 +41,7 @@ use Rattle.dye_run.specs.Words.{CertWords}
 use Rattle.dye_run.proofs.CertTrees.{one_tree}
 use Rattle.dye_run.proofs.FilesKnown.{cert_answers, job_bytes, job_cert_read, ok_next, result_from}
 use Rattle.dye_run.proofs.FormWords.{AreCertWords, correct_words, ends_as_cert, predict_words}
+use Rattle.dye_run.proofs.ShowLaws.{differences_enclose}
 use Rattle.job_laws.proofs.Accepted.{files_are_no_certs}
 use Rattle.job_laws.proofs.Either.{accepts_either}
 use Rattle.job_laws.specs.Laws.{IsNoCert}
@@ -271,4 +272,4 @@ module _ (ws : List (List ℕ)) (before after : World) (status : ℕ) (tells : t
       summary number before after status r.report r.answers r.status r.leaves r.searched
 
   pub says_of_recipes : SaysOfRecipes (form_of ws) before after status
-  says_of_recipes = record { predicts = says_predicts; corrects = says_corrects; checks = says_checks; summarises = says_summarises }
+  says_of_recipes = record { predicts = says_predicts; corrects = says_corrects; checks = says_checks; summarises = says_summarises; finer = differences_enclose }

@@ -1,17 +1,19 @@
 -- The report of `show`: its enclosures hold those of every finer scale, and its verdicts are true there.
 use Rattle.std.proofs.Common.{◌+◌, ◌*◌, ◌<◌, ◌≤◌, ℕ, List, [], ◌∷◌, Some, None, All, lit≤, refl, arith}
+use Rattle.std.specs.List.{AllZip}
 use Rattle.std.proofs.lemmas.List.Elements.{All-cons}
 use Rattle.cielab_bounds.specs.Laws.{EnclosesLab}
 use Rattle.cielab_bounds.proofs.LabLaw.{lab_encloses}
 use Rattle.cmc_specs.proofs.Law.{any_colours_enclose}
 use Rattle.interval_specs.specs.Ends.{Ends}
+use Rattle.interval_specs.specs.Encloses.{Encloses}
 use Rattle.job_file.specs.declared.light.JobLight.{JobLight}
 use Rattle.job_file.specs.Resolve.{ResolvedJob, base_curve}
 use Rattle.ks_curves.specs.Dye.{DyeData}
 use Rattle.metamerism.specs.Difference.{colour_under}
 use Rattle.mix_model.specs.Mixture.{portions}
 use Rattle.mix_model.proofs.MixtureLaws.{any_mixture_encloses}
-use Rattle.recipe_judge.specs.Evaluation.{spectrum_of}
+use Rattle.recipe_judge.specs.Evaluation.{differences_at, differences_under, spectrum_of}
 use Rattle.spectral_tables.specs.Laws.{EnclosesWaves}
 use Rattle.spectral_tables.specs.Spectrum.{spectrum_at}
 use Rattle.spectral_tables.specs.WeightTable.{WeightTable}
@@ -55,6 +57,17 @@ lights_stand r recipe number [] tables = no_more
 lights_stand r recipe number (light ∷ lights) [] = no_more
 lights_stand r recipe number (light ∷ lights) (weights ∷ tables) =
     All-cons StandsFiner (light_evaluation r recipe number light weights) (light_evaluations r recipe (number + 1) lights tables) (light_stands r recipe number light weights) (lights_stand r recipe (number + 1) lights tables)
+
+-- the differences of a recipe under lights enclose those at every finer scale
+lights_enclose : (r : ResolvedJob) (recipe : List ℕ) (m : ℕ) → 0 < m → (lights : List JobLight) (tables : List WeightTable)
+    → AllZip (Encloses m) (differences_under base_unit (spectrum_at base_unit r.standard) lights tables (spectrum_of base_unit r recipe recipe))
+    (differences_under (m * base_unit) (spectrum_at (m * base_unit) r.standard) lights tables (spectrum_of (m * base_unit) r recipe recipe))
+lights_enclose r recipe m some [] tables = tt
+lights_enclose r recipe m some (light ∷ lights) [] = tt
+lights_enclose r recipe m some (light ∷ lights) (weights ∷ tables) = ((light_stands r recipe 1 light weights).encloses m some, lights_enclose r recipe m some lights tables)
+
+pub differences_enclose : (r : ResolvedJob) (recipe : List ℕ) (m : ℕ) → 0 < m → AllZip (Encloses m) (differences_at base_unit r recipe recipe) (differences_at (m * base_unit) r recipe recipe)
+differences_enclose r recipe m some = lights_enclose r recipe m some r.job.light r.weights
 
 pub show_proper : (words : ShowWords) (r : ResolvedJob) → IsProper None (outcome_of (show_report words r))
 unfolding show_report

@@ -1,6 +1,6 @@
 -- What a command that searches or checks claims about the recipes of a job, in terms of the recipes: the plain list of them,
 -- their prices, limits and verdicts.
-use Rattle.std.specs.Prelude.{◌≡◌, ◌⊎◌, ℕ, List, length, map, Option, Some, Ok}
+use Rattle.std.specs.Prelude.{◌≡◌, ◌⊎◌, ◌*◌, ◌<◌, ℕ, List, length, map, Option, Some, Ok}
 use Rattle.std.specs.Io.KnownBytes.{append_known}
 use Rattle.std.specs.List.{AllZip}
 use Rattle.box_cert.specs.Spelling.{Content, cert_text}
@@ -10,13 +10,16 @@ use Rattle.box_specs.specs.declared.certificate.Claim.{Claim}
 use Rattle.box_specs.specs.Meaning.{Means}
 use Rattle.box_specs.specs.Validity.{IsValid}
 use Rattle.cert_laws.specs.Laws.{ClaimHolds}
+use Rattle.interval_specs.specs.Encloses.{Encloses}
 use Rattle.job_file.specs.Job.{Values}
 use Rattle.job_file.specs.Resolve.{ResolvedJob}
 use Rattle.job_file.specs.declared.top.BatchRule.{BatchRule}
 use Rattle.job_file.specs.declared.top.BatchRule.TheVariants.{With, Without}
+use Rattle.recipe_judge.specs.Evaluation.{differences_at}
 use Rattle.recipe_judge.specs.Recipes.{recipe_land}
 use Rattle.shade_report.specs.Outcomes.{accepted_text, demo_text, outcome_text}
 use Rattle.shelf_io.specs.Contents.{Contents}
+use Rattle.dye_run.specs.Answers.{base_unit}
 use Rattle.dye_run.specs.Asking.{result_of}
 use Rattle.dye_run.specs.Check.{accepted_report, check_rule}
 use Rattle.dye_run.specs.Commands.{asking_of}
@@ -99,9 +102,11 @@ pub record Summarises (number : ℕ) (before after : World) (status : ℕ) : Typ
 abbrev pub IsFoundStatus : ℕ → Type 0
 IsFoundStatus status = (status ≡ 0) ⊎ ((status ≡ 5) ⊎ (status ≡ 6))
 
--- what the status of a command that searches or checks means for the recipes
+-- what the status of a command that searches or checks means for the recipes.
+-- `finer`: the differences that are printed of a recipe enclose those at every finer scale
 pub record SaysOfRecipes (form : Option Form) (before after : World) (status : ℕ) : Type 0 where
   pub predicts : (words : CertWords) → form ≡ Some (predict words) → IsFoundStatus status → Finds Without words before after status
   pub corrects : (words : CertWords) → form ≡ Some (correct words) → IsFoundStatus status → Finds With words before after status
   pub checks : (words : CertWords) → form ≡ Some (check words) → status ≡ 0 → Confirms words before after
   pub summarises : (number : ℕ) → form ≡ Some (demo number) → IsFoundStatus status → Summarises number before after status
+  pub finer : (job : ResolvedJob) (recipe : List ℕ) (m : ℕ) → 0 < m → AllZip (Encloses m) (recipe_values job recipe).deltas (differences_at (m * base_unit) job recipe recipe)
