@@ -1,4 +1,4 @@
--- The certificate of a search has the ranges that its type keeps.
+-- The numbers and lengths in the certificate of a search are in the ranges of its type.
 use Rattle.std.proofs.Common.{◌≡◌, ◌+◌, ◌^◌, ◌≤◌, ℕ, zero, suc, List, [], ◌∷◌, Bool, true, false, length, if◌then◌else◌, refl, sym, subst, ◌∙◌, inl, inr, arith}
 use Rattle.std.specs.Prelude.{All, Option, Some, None}
 use Rattle.std.specs.List.{AllByRecursion, Contains}
@@ -18,7 +18,7 @@ use Rattle.box_specs.specs.Validity.{IsValid, corners, is_undecided_line}
 use Rattle.box_specs.proofs.Cuts.{cut_fits, same_count}
 use Rattle.box_core.specs.Ranges.{AreOfLength, ClaimFits, HaveOneLength, LineFits, StepsFit, first_length, recipes_of}
 use Rattle.box_search.specs.Answers.{IsFound}
-use Rattle.box_search.specs.Trees.{IsSound, IsTree}
+use Rattle.box_search.specs.Trees.{IsSound, IsSoundTree}
 use Rattle.box_search.proofs.Ranks.{whole}
 use Rattle.box_search.proofs.Trees.{sound_of}
 use Rattle.box_search.proofs.Valid.{at_top, canonical_is_valid, corner_in, first_is}
@@ -44,7 +44,7 @@ module _ (l : Land) (lawful : IsLawful l) where
   pub length_is : (r : List ℕ) → IsWithin r l.top → length r ≡ length l.top.lo
   length_is r h = same_count l.top.lo r h.0
 
-  -- the lines of boxes
+  -- the numbers in the line of a box are in range
   limit_fits : (k : ℕ) (b : Span) → l.excluded k b ≡ true → LineFits (Limit k)
   limit_fits zero b h = absurd (false≢true (sym (lawful.no_limit 0 b (inl refl)) ∙ h))
   limit_fits (suc k) b h = elim (cases_lt 5 (suc k)) as (λ _. LineFits (Limit (suc k))) [
@@ -82,7 +82,7 @@ module _ (l : Land) (lawful : IsLawful l) where
   lines_fit n budget listed = All-from_recursion LineFits (canonical_lines l n)
       (at_top l lawful listed budget n (λ bs xs. AllByRecursion LineFits xs)
       (each_line l (is_judged l n) (λ bs xs. AllByRecursion LineFits xs) (tree_of l) 0 step (tree_of l) 0 (whole l lawful) (λ d u p. p) [] [] tt)) where
-        step : (d : ℕ) (u : Tree) → IsPart l (tree_of l) 0 d u → IsTree l u → (bs : List Span) (xs : List CertLine) → AllByRecursion LineFits xs → AllByRecursion LineFits (own l (is_judged l n) d (root u) ∷ xs)
+        step : (d : ℕ) (u : Tree) → IsPart l (tree_of l) 0 d u → IsSoundTree l u → (bs : List Span) (xs : List CertLine) → AllByRecursion LineFits xs → AllByRecursion LineFits (own l (is_judged l n) d (root u) ∷ xs)
         step d u p i bs xs w = (go (is_judged l n d (root u)), w) where
           go : (j : Bool) → LineFits (if j then line_of l (root u) else Dear)
           go true = line_fits (root u) (sound_of l u i)
@@ -115,7 +115,7 @@ module _ (l : Land) (lawful : IsLawful l) where
       all NoMatch e = rest
       all (Floor cost) e = rest
 
--- the certificate that is made of what was found
+-- what holds of a certificate with this claim, the undecided recipes rs and the lines xs
 pub record IsMade (l : Land) (budget : ℕ) (claim : Claim) (rs : List (List ℕ)) (xs : List CertLine) (n : ℕ) : Type 0 where
   pub canonical : IsCanonical l budget claim rs xs n
   pub valid : IsValid l claim rs xs
@@ -130,8 +130,8 @@ made l lawful budget claim listed n g f few rs xs er ex =
     subst (λ a. IsMade l budget claim a xs n) (sym er) (subst (λ a. IsMade l budget claim listed a n) (sym ex) (record {
       canonical = f.canonical;
       valid = canonical_is_valid l lawful budget claim listed (canonical_lines l n) n f.canonical;
-      short = omega (arith, f.few, f.canonical.judged, few);
-      few = omega (arith, f.short, f.canonical.judged, few);
+      short = omega (arith, f.short, f.canonical.judged, few);
+      few = omega (arith, f.few, f.canonical.judged, few);
       one_length = lengths_fit l lawful budget n listed claim f.canonical;
       numbers = numbers_fit l lawful budget n listed claim f.canonical;
     }))

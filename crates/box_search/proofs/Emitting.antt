@@ -10,7 +10,7 @@ use Rattle.box_specs.specs.Span.{IsBox, Span, is_single}
 use Rattle.box_specs.specs.Splits.{cut_of, lower_half, upper_half}
 use Rattle.box_specs.specs.Tree.{Spot, Tree, fork, leaf, root, spot_of, spread}
 use Rattle.box_specs.proofs.Cuts.{cut_fits, lower_is_box, upper_is_box}
-use Rattle.box_search.specs.Trees.{IsTree, Knows, is_split_line, kept_line}
+use Rattle.box_search.specs.Trees.{HasLines, IsSoundTree, is_split_line, kept_line}
 use Rattle.box_search.proofs.Trees.{less_spread, part_root}
 use Rattle.box_search.proofs.Walks.{is_end, leaf_line, open_line}
 
@@ -43,11 +43,11 @@ kept_if true y = refl
 kept_if false y = refl
 
 module _ (l : Land) (g : Spot → Option CertLine) (judged : ℕ → Span → Bool) (depth : ℕ) where
-  own_line : (t : Tree) → Knows l g judged depth t → (x : CertLine) → x ≡ kept_line (g (spot_of l depth (root t))) → x ≡ (if judged depth (root t) then line_of l (root t) else Dear)
+  own_line : (t : Tree) → HasLines l g judged depth t → (x : CertLine) → x ≡ kept_line (g (spot_of l depth (root t))) → x ≡ (if judged depth (root t) then line_of l (root t) else Dear)
   own_line t knows x e = e ∙ ap kept_line (knows depth t (part_root l t depth)) ∙ kept_if (judged depth (root t)) (line_of l (root t))
 
-  -- a box whose line does not split it
-  pub no_split : (t : Tree) → IsTree l t → Knows l g judged depth t → (x : CertLine) → x ≡ kept_line (g (spot_of l depth (root t)))
+  -- a tree has only the line of its root where that is no split or the root is one recipe
+  pub no_split : (t : Tree) → IsSoundTree l t → HasLines l g judged depth t → (x : CertLine) → x ≡ kept_line (g (spot_of l depth (root t)))
       → (is_split_line x ≡ false) ⊎ (is_single (root t) ≡ true) → lines l judged depth t ≡ x ∷ []
   no_split (leaf b) i knows x e h = ap (λ y. y ∷ []) (sym (own_line (leaf b) knows x e))
   no_split (fork b s t) i knows x e h = go (judged depth b) (own_line (fork b s t) knows x e) where
@@ -58,11 +58,11 @@ module _ (l : Land) (g : Spot → Option CertLine) (judged : ℕ → Span → Bo
       | inr y ↦ absurd (false≢true (sym i.1 ∙ or_right (is_shut l b) (is_single b) y))
     ]
 
-  -- a box whose line splits it
-  pub split_lines : (t : Tree) → IsTree l t → Knows l g judged depth t → (x : CertLine) → x ≡ kept_line (g (spot_of l depth (root t))) → is_split_line x ≡ true
+  -- a tree whose line is a split has that line, the lines of its lower half, and those of its upper
+  pub split_lines : (t : Tree) → IsSoundTree l t → HasLines l g judged depth t → (x : CertLine) → x ≡ kept_line (g (spot_of l depth (root t))) → is_split_line x ≡ true
       → (low high : Span) → low ≡ lower_half (root t) (cut_of (root t)) → high ≡ upper_half (root t) (cut_of (root t)) → (o0 o1 o2 o3 : List CertLine) → o1 ≡ o0 ++ x ∷ []
-      → ((w : Tree) → IsTree l w → root w ≡ low → Knows l g judged (depth + 1) w → o2 ≡ o1 ++ lines l judged (depth + 1) w)
-      → ((w : Tree) → IsTree l w → root w ≡ high → Knows l g judged (depth + 1) w → o3 ≡ o2 ++ lines l judged (depth + 1) w) → o3 ≡ o0 ++ lines l judged depth t
+      → ((w : Tree) → IsSoundTree l w → root w ≡ low → HasLines l g judged (depth + 1) w → o2 ≡ o1 ++ lines l judged (depth + 1) w)
+      → ((w : Tree) → IsSoundTree l w → root w ≡ high → HasLines l g judged (depth + 1) w → o3 ≡ o2 ++ lines l judged (depth + 1) w) → o3 ≡ o0 ++ lines l judged depth t
   split_lines (leaf b) i knows x e h low high el eh o0 o1 o2 o3 p q r = go (judged depth b) (own_line (leaf b) knows x e) where
     go : (j : Bool) → x ≡ (if j then line_of l b else Dear) → o3 ≡ o0 ++ lines l judged depth (leaf b)
     go true o = absurd (false≢true (sym (end_not_split (line_of l b) (leaf_line l b i.1)) ∙ ap is_split_line (sym o) ∙ h))

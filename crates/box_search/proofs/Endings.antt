@@ -19,23 +19,23 @@ use Rattle.box_specs.specs.Tree.{Spot, Tree, count, fork, is_needed, leaf, need,
 use Rattle.box_specs.specs.Validity.{corners, is_listed, is_pass_line, is_undecided_line}
 use Rattle.box_specs.proofs.Answers.{never_before_itself}
 use Rattle.box_specs.proofs.Cuts.{not_both as not_both_halves}
-use Rattle.box_search.specs.Frontier.{IsAt, IsCovered, IsOpen, State, done_in, is_done, with_entry, without}
+use Rattle.box_search.specs.Frontier.{IsAt, IsCovered, IsUndecided, State, done_in, is_done, with_entry, without}
 use Rattle.box_search.proofs.Frontier.{IsChild, Turned, corner_in_box, entry_cases, equal_test, none_some, part_trans, same_part, some_same, spot_same, without_cases}
-use Rattle.box_search.proofs.Orders.{before_by_key, before_on, by, first, key_not_before, next_deeper, not_after, not_both, not_deeper, not_itself, on_before, spot_up, spots_are_ordered, tied_keys}
+use Rattle.box_search.proofs.Orders.{before_by_key, before_on, by, key_not_before, next_deeper, not_after, not_both, not_deeper, not_itself, on_before, precedes, spot_up, spots_are_ordered, tied_keys}
 use Rattle.box_search.proofs.Ranks.{alike, at_sound, at_tree, below_after, ge_test, judged_above, lt_test, not_false, not_true, whole}
-use Rattle.box_search.proofs.Trees.{IsSound, IsTree, corner_within, count_le, count_lt, halved, part_root, whole_root}
-use Rattle.box_search.proofs.Valid.{Found, answer, at_top, corner_in, first_is, found, line_match}
+use Rattle.box_search.proofs.Trees.{IsSound, IsSoundTree, corner_within, count_le, count_lt, halved, part_root, whole_root}
+use Rattle.box_search.proofs.Valid.{MatchLeaf, answer, at_top, corner_in, first_is, line_match, match_leaf}
 use Rattle.box_search.proofs.Walks.{corners_are, mark, passing}
 
 pub equal_itself : (z : Spot) → is_eq (spot_cmp z z) ≡ true
 equal_itself z = ap is_eq (tied_itself spots_are_ordered z)
 
--- both halves of a box wait
+-- a map with both halves of a box
 abbrev pub with_halves : Land → ℕ → Span → (Spot → Option Span) → Spot → Option Span
 with_halves l d b f =
     with_entry (spot_of l (d + 1) (lower_half b (cut_of b))) (lower_half b (cut_of b)) (with_entry (spot_of l (d + 1) (upper_half b (cut_of b))) (upper_half b (cut_of b)) f)
 
--- the halves of a box have two places
+-- the halves of a box have different places
 two_places : (l : Land) (d : ℕ) (b : Span) → IsSound l b → is_final l b ≡ false → is_eq (spot_cmp (spot_of l d (lower_half b (cut_of b))) (spot_of l d (upper_half b (cut_of b)))) ≡ false
 two_places l d b i h = by (is_eq (spot_cmp (spot_of l d (lower_half b (cut_of b))) (spot_of l d (upper_half b (cut_of b)))))
     (λ x.
@@ -47,8 +47,8 @@ two_places l d b i h = by (is_eq (spot_cmp (spot_of l d (lower_half b (cut_of b)
 
 module _ (l : Land) (lawful : IsLawful l) where
   module _ (f : Spot → Option Span) (g : Spot → Option CertLine) (last : Option Spot) (n : ℕ) (listed : List (List ℕ)) (d : ℕ) where
-    -- a box that is not split leaves the map
-    pub turned_leaf : (u : Tree) → IsTree l u → is_final l (root u) ≡ true → Turned l lawful f (without (spot_of l d (root u)) f) g last n listed d u
+    -- a judged box that is not split waits no longer
+    pub turned_leaf : (u : Tree) → IsSoundTree l u → is_final l (root u) ≡ true → Turned l lawful f (without (spot_of l d (root u)) f) g last n listed d u
     turned_leaf (fork b s t) i h = absurd (false≢true (sym i.1 ∙ h))
     turned_leaf (leaf b) i h = record {
       new = λ z c k.
@@ -58,8 +58,8 @@ module _ (l : Land) (lawful : IsLawful l) where
       below = λ e v k. inl (sym k.0, sym k.1);
     }
 
-    -- a box that is split leaves its halves
-    pub turned_fork : (u : Tree) → IsTree l u → IsPart l (tree_of l) 0 d u → is_final l (root u) ≡ false
+    -- a judged box that is split waits no longer, and its halves wait
+    pub turned_fork : (u : Tree) → IsSoundTree l u → IsPart l (tree_of l) 0 d u → is_final l (root u) ≡ false
         → Turned l lawful f (with_halves l d (root u) (without (spot_of l d (root u)) f)) g last n listed d u
     turned_fork (leaf b) i at h = absurd (false≢true (sym h ∙ i.1))
     turned_fork (fork b s t) i at h = record { new = new; keeps = keeps; below = below } where
@@ -96,7 +96,7 @@ module _ (l : Land) (lawful : IsLawful l) where
         recast : IsChild l lawful f F g last n listed d (fork b s t) z c → IsChild l lawful f (with_halves l d b F) g last n listed d (fork b s t) z c
         recast x = record { part = x.part; at = x.at; box = x.box; depth = x.depth; place = x.place }
 
-      -- what waits at the place of a half is that half
+      -- a box that waits at the place of a half is that half
       same_half : (w : Tree) → IsPart l (fork b s t) d (d + 1) w → (z : Spot) (c : Span) → IsAt l z c → is_eq (spot_cmp (spot_of l (d + 1) (root w)) z) ≡ true → root w ≡ c
       same_half w k z c a x =
           let spots = spot_same (spot_of l (d + 1) (root w)) z x in
@@ -135,20 +135,20 @@ module _ (l : Land) (lawful : IsLawful l) where
       below e v (inr (inr k)) = inr (covered t e v high_part k High i.3 high_waits)
 
     -- the lower half stands before the other boxes that wait
-    module _ (s : State l f g last n listed None) (b : Span) (sound : IsSound l b) (here : f (spot_of l d b) ≡ Some b) (least : (z : Spot) (c : Span) → f z ≡ Some c → first z (spot_of l d b) ≡ false) where
+    module _ (s : State l f g last n listed None) (b : Span) (sound : IsSound l b) (here : f (spot_of l d b) ≡ Some b) (least : (z : Spot) (c : Span) → f z ≡ Some c → precedes z (spot_of l d b) ≡ false) where
       abbrev Here : Spot
       Here = spot_of l d b
 
-      before_upper : is_final l b ≡ false → first (spot_of l (d + 1) (lower_half b (cut_of b))) (spot_of l (d + 1) (upper_half b (cut_of b))) ≡ true
+      before_upper : is_final l b ≡ false → precedes (spot_of l (d + 1) (lower_half b (cut_of b))) (spot_of l (d + 1) (upper_half b (cut_of b))) ≡ true
       before_upper h =
           let two = halved l b sound h in
           let high = corner_within l (upper_half b (cut_of b)) l.top two.upper.box two.upper.inside in
           let up = spot_up (spot_of l (d + 1) (lower_half b (cut_of b))) (spot_of l (d + 1) (upper_half b (cut_of b)))
           (lawful.grows b.lo (upper_half b (cut_of b)).lo (corner_within l b l.top sound.box sound.inside) high two.upper_in.0) two.upper_in.0 (omega arith) in
-          by (first (spot_of l (d + 1) (lower_half b (cut_of b))) (spot_of l (d + 1) (upper_half b (cut_of b)))) (λ x. x)
+          by (precedes (spot_of l (d + 1) (lower_half b (cut_of b))) (spot_of l (d + 1) (upper_half b (cut_of b)))) (λ x. x)
           (λ x. absurd (false≢true (sym (two_places l (d + 1) b sound h) ∙ equal_test (spot_of l (d + 1) (lower_half b (cut_of b))) (spot_of l (d + 1) (upper_half b (cut_of b))) x up)))
 
-      -- another box that waits has another corner
+      -- a box that waits with the lower corner of this one is this one
       other_corner : (z : Spot) (c : Span) → f z ≡ Some c → z.key.steps ≡ b.lo → z ≡ Here
       other_corner z c h e =
           let a = s.waits z c h in
@@ -156,29 +156,29 @@ module _ (l : Land) (lawful : IsLawful l) where
           let sound_c = subst (IsSound l) a.box (at_sound l lawful z.depth a.part a.at) in
           s.disjoint z Here c b b.lo h here (subst (λ r. IsWithin r c) corner (corner_in_box l c sound_c)) (corner_in_box l b sound)
 
-      before_others : (z : Spot) (c : Span) → f z ≡ Some c → is_eq (spot_cmp Here z) ≡ false → first (spot_of l (d + 1) (lower_half b (cut_of b))) z ≡ true
+      before_others : (z : Spot) (c : Span) → f z ≡ Some c → is_eq (spot_cmp Here z) ≡ false → precedes (spot_of l (d + 1) (lower_half b (cut_of b))) z ≡ true
       before_others z c h k =
-          let behind : first Here z ≡ true = by (first Here z) (λ x. x) (λ x. absurd (false≢true (sym k ∙ equal_test Here z x (least z c h)))) in
-          by (first (spot_of l (d + 1) (lower_half b (cut_of b))) z) (λ x. x)
+          let behind : precedes Here z ≡ true = by (precedes Here z) (λ x. x) (λ x. absurd (false≢true (sym k ∙ equal_test Here z x (least z c h)))) in
+          by (precedes (spot_of l (d + 1) (lower_half b (cut_of b))) z) (λ x. x)
           (λ x.
           let same = spot_same (spot_of l (d + 1) (lower_half b (cut_of b))) z (equal_test (spot_of l (d + 1) (lower_half b (cut_of b))) z x (next_deeper Here z behind)) in
           let this = other_corner z c h (sym (ap (λ (q : Spot). q.key.steps) same)) in
           absurd (false≢true (sym k ∙ subst (λ q. is_eq (spot_cmp Here q) ≡ true) (sym this) (equal_itself Here))))
 
       pub lower_ahead : is_final l b ≡ false → (z : Spot) (c : Span) → with_entry (spot_of l (d + 1) (upper_half b (cut_of b))) (upper_half b (cut_of b)) (without Here f) z ≡ Some c
-          → first (spot_of l (d + 1) (lower_half b (cut_of b))) z ≡ true
-      lower_ahead h z c k = elim (entry_cases (spot_of l (d + 1) (upper_half b (cut_of b))) (upper_half b (cut_of b)) (without Here f) z c k) as (λ _. first (spot_of l (d + 1) (lower_half b (cut_of b))) z ≡ true) [
-        | inl x ↦ subst (λ q. first (spot_of l (d + 1) (lower_half b (cut_of b))) q ≡ true) x.0 (before_upper h)
+          → precedes (spot_of l (d + 1) (lower_half b (cut_of b))) z ≡ true
+      lower_ahead h z c k = elim (entry_cases (spot_of l (d + 1) (upper_half b (cut_of b))) (upper_half b (cut_of b)) (without Here f) z c k) as (λ _. precedes (spot_of l (d + 1) (lower_half b (cut_of b))) z ≡ true) [
+        | inl x ↦ subst (λ q. precedes (spot_of l (d + 1) (lower_half b (cut_of b))) q ≡ true) x.0 (before_upper h)
         | inr y ↦
             let x = without_cases Here f z c y in
             before_others z c x.1 x.0
       ]
 
-  -- at the start only the box of all recipes waits
   count_none : (t : Tree) (k : ℕ) → count (done_in l None) k t ≡ 0
   count_none (leaf b) k = refl
   count_none (fork b s t) k = omega (arith, count_none s (k + 1), count_none t (k + 1))
 
+  -- at the start only the box of all recipes waits, and no box is judged
   pub first_state : State l (with_entry (spot_of l 0 l.top) l.top (λ z. None)) (λ z. None) None 0 [] None
   first_state = record {
     waits = λ z b h. elim (entry_cases (spot_of l 0 l.top) l.top (λ q. None) z b h) as (λ _. IsAt l z b) [
@@ -211,7 +211,7 @@ module _ (l : Land) (lawful : IsLawful l) where
     written = λ e v i. refl;
     clean = λ e v i x y. absurd (false≢true x);
     rising = λ i j d a b. absurd (omega (arith, b));
-    each = All-nil (IsOpen l None);
+    each = All-nil (IsUndecided l None);
     every = λ e v i x y. absurd (false≢true x);
     shallow = λ z b h. elim (entry_cases (spot_of l 0 l.top) l.top (λ q. None) z b h) as (λ _. z.depth ≤ 0) [
       | inl x ↦ omega (arith, ap (λ (q : Spot). q.depth) x.0)
@@ -220,23 +220,23 @@ module _ (l : Land) (lawful : IsLawful l) where
     short = omega arith;
   }
 
-  -- the judged places are those of the first ranks
-  done_down : (last : Option Spot) (w z : Spot) → is_done last z ≡ true → first w z ≡ true → is_done last w ≡ true
+  done_down : (last : Option Spot) (w z : Spot) → is_done last z ≡ true → precedes w z ≡ true → is_done last w ≡ true
   done_down None w z h k = absurd (false≢true h)
-  done_down (Some p) w z h k = ap not (by (first p w) (λ x. absurd (false≢true (sym (not_true (first p z) h) ∙ before_on p w z x (not_both w z k)))) (λ x. x))
+  done_down (Some p) w z h k = ap not (by (precedes p w) (λ x. absurd (false≢true (sym (not_true (precedes p z) h) ∙ before_on p w z x (not_both w z k)))) (λ x. x))
 
-  done_before : (last : Option Spot) (w z : Spot) → is_done last z ≡ false → is_done last w ≡ true → first w z ≡ true
+  done_before : (last : Option Spot) (w z : Spot) → is_done last z ≡ false → is_done last w ≡ true → precedes w z ≡ true
   done_before None w z h k = absurd (false≢true k)
-  done_before (Some p) w z h k = on_before w p z (not_true (first p w) k) (not_false (first p z) h)
+  done_before (Some p) w z h k = on_before w p z (not_true (precedes p w) k) (not_false (precedes p z) h)
 
   module _ (f : Spot → Option Span) (g : Spot → Option CertLine) (last : Option Spot) (n : ℕ) (listed : List (List ℕ)) (won : Option (List ℕ)) (s : State l f g last n listed won) where
+    -- a box is judged exactly where its rank is less than the number of judged boxes
     pub ranked : (e : ℕ) (v : Tree) → IsPart l (tree_of l) 0 e v → is_judged l n e (root v) ≡ done_in l last e (root v)
     ranked e v i = by (done_in l last e (root v))
         (λ h.
-        let less = count_lt l (λ d b. first (spot_of l d b) (spot_of l e (root v))) (done_in l last) (tree_of l) 0 e v (λ d w j x. done_down last (spot_of l d (root w)) (spot_of l e (root v)) h x) i (not_itself (spot_of l e (root v))) h in
+        let less = count_lt l (λ d b. precedes (spot_of l d b) (spot_of l e (root v))) (done_in l last) (tree_of l) 0 e v (λ d w j x. done_down last (spot_of l d (root w)) (spot_of l e (root v)) h x) i (not_itself (spot_of l e (root v))) h in
         lt_test (rank l (spot_of l e (root v))) n (omega (arith, less, s.counted)) ∙ sym h)
         (λ h.
-        let more = count_le l (done_in l last) (λ d b. first (spot_of l d b) (spot_of l e (root v))) (tree_of l) 0 (λ d w j x. done_before last (spot_of l d (root w)) (spot_of l e (root v)) h x) in
+        let more = count_le l (done_in l last) (λ d b. precedes (spot_of l d b) (spot_of l e (root v))) (tree_of l) 0 (λ d w j x. done_before last (spot_of l d (root w)) (spot_of l e (root v)) h x) in
         ge_test (rank l (spot_of l e (root v))) n (omega (arith, more, s.counted)) ∙ sym h)
 
     pub canonical_at : (budget : ℕ) (claim : Claim) → n ≡ min (need l) budget → IsClaim l budget claim → IsCanonical l budget claim listed (canonical_lines l n) n
@@ -245,7 +245,7 @@ module _ (l : Land) (lawful : IsLawful l) where
       claimed = c;
       tree_is = refl;
       rising = s.rising;
-      each = All-weaker (IsOpen l last) (Contains cs) marked listed s.each;
+      each = All-weaker (IsUndecided l last) (Contains cs) marked listed s.each;
       every = All-from_recursion (Contains listed) cs
           (at_top l lawful listed budget n (λ bs xs. AllByRecursion (Contains listed) (corners is_undecided_line bs xs))
           (corners_are l (is_judged l n) (Contains listed) is_undecided_line refl (tree_of l) 0 (whole l lawful) (λ d u i j h. s.every d u i (sym (ranked d u i) ∙ j) h) [] [] tt));
@@ -253,7 +253,7 @@ module _ (l : Land) (lawful : IsLawful l) where
       cs : List (List ℕ)
       cs = corners is_undecided_line (l.top ∷ []) (canonical_lines l n)
 
-      marked : (r : List ℕ) → IsOpen l last r → Contains cs r
+      marked : (r : List ℕ) → IsUndecided l last r → Contains cs r
       marked r o =
           let judged = ranked o.depth o.part o.at ∙ o.judged in
           let there = mark l (is_judged l n) is_undecided_line o.depth o.part judged o.line (tree_of l) 0 (whole l lawful) o.at
@@ -261,14 +261,14 @@ module _ (l : Land) (lawful : IsLawful l) where
           let listed_ = at_top l lawful listed budget n (λ bs xs. is_listed (corners is_undecided_line bs xs) (root o.part).lo ≡ true) there in
           subst (Contains cs) o.corner (Contains-from_any (λ a b. (bytes_eq-Decides a b).0) (root o.part).lo cs listed_)
 
-  -- the answer is one
+  -- a match that each first match equals is the answer
   one_answer : (r : List ℕ) → IsWithin r l.top → is_match l r ≡ true → ((a : List ℕ) → IsFirstMatch l a → a ≡ r) → answer_of l ≡ Some r
   one_answer r w m same = go (answer_of l) refl where
     go : (o : Option (List ℕ)) → answer_of l ≡ o → answer_of l ≡ Some r
     go None e = absurd (false≢true (sym (subst (IsAnswer l) e (answer l lawful) r w) ∙ m))
     go (Some a) e = e ∙ ap Some (same a (first_is l lawful a e))
 
-  no_fork_single : (u : Tree) → IsTree l u → is_single (root u) ≡ true → leaf (root u) ≡ u
+  no_fork_single : (u : Tree) → IsSoundTree l u → is_single (root u) ≡ true → leaf (root u) ≡ u
   no_fork_single (leaf b) i h = refl
   no_fork_single (fork b x y) i h = absurd (false≢true (sym i.1 ∙ or_right (is_shut l b) (is_single b) h))
 
@@ -282,12 +282,12 @@ module _ (l : Land) (lawful : IsLawful l) where
     leaf_u = subst (λ w. IsPart l (tree_of l) 0 d w) (sym (no_fork_single u (at_tree l lawful d u at) (passing l (root u) h).0.alone)) at
 
     first_one : (a : List ℕ) → IsFirstMatch l a → a ≡ (root u).lo
-    first_one a m = go (found l lawful a m.grid m.matches) where
-      go : Found l a → a ≡ (root u).lo
+    first_one a m = go (match_leaf l lawful a m.grid m.matches) where
+      go : MatchLeaf l a → a ≡ (root u).lo
       go x = by (done_in l (Some Q) x.depth x.box)
           (λ y. sym (some_same (root u).lo a (s.clean x.depth (leaf x.box) x.part y x.line ∙ ap Some x.corner)))
           (λ y.
-          let late = key_not_before (spot_of l x.depth x.box) Q (not_both Q (spot_of l x.depth x.box) (not_false (first Q (spot_of l x.depth x.box)) y)) in
+          let late = key_not_before (spot_of l x.depth x.box) Q (not_both Q (spot_of l x.depth x.box) (not_false (precedes Q (spot_of l x.depth x.box)) y)) in
           let key : is_before l a (root u).lo ≡ false = subst (λ r. is_before l r (root u).lo ≡ false) x.corner late in
           tied_keys (key_of l a) (key_of l (root u).lo) key (m.first (root u).lo (corner_in l lawful d u at) (line_match l (root u) h)))
 
@@ -305,16 +305,16 @@ module _ (l : Land) (lawful : IsLawful l) where
     won_need =
         let more = count_le l (λ e b. is_needed l (Some (root u).lo) b) (done_in l (Some Q)) (tree_of l) 0 needed_done in
         let less = count_le l (done_in l (Some Q)) (λ e b. is_needed l (Some (root u).lo) b) (tree_of l) 0
-        (λ e v i x. ap not (key_not_before Q (spot_of l e (root v)) (not_true (first Q (spot_of l e (root v))) x))) in
+        (λ e v i x. ap not (key_not_before Q (spot_of l e (root v)) (not_true (precedes Q (spot_of l e (root v))) x))) in
         let same : count (λ e b. is_needed l (Some (root u).lo) b) 0 (tree_of l) ≡ n = omega (arith, more, less, s.counted) in
         ap (λ o. count (λ e b. is_needed l o b) 0 (tree_of l)) won_is ∙ same
 
   module _ (f : Spot → Option Span) (g : Spot → Option CertLine) (last : Option Spot) (n : ℕ) (listed : List (List ℕ)) (s : State l f g last n listed None) where
-    -- a recipe that passes is that of a box that is not judged
-    not_done : (a : List ℕ) → (x : Found l a) → done_in l last x.depth x.box ≡ false
+    -- no judged box passes so far, so the box of a match is not judged yet
+    not_done : (a : List ℕ) → (x : MatchLeaf l a) → done_in l last x.depth x.box ≡ false
     not_done a x = by (done_in l last x.depth x.box) (λ y. absurd (none_some x.box.lo (s.clean x.depth (leaf x.box) x.part y x.line))) (λ y. y)
 
-    -- no box waits: no recipe passes, and all boxes are judged
+    -- no box waits: no admitted recipe passes, and all boxes are judged
     module _ (empty : (z : Spot) → f z ≡ None) where
       all_done : (e : ℕ) (v : Tree) → IsPart l (tree_of l) 0 e v → done_in l last e (root v) ≡ true
       all_done e v i = by (done_in l last e (root v)) (λ x. x)
@@ -328,7 +328,7 @@ module _ (l : Land) (lawful : IsLawful l) where
         go None e = e
         go (Some a) e =
             let m = first_is l lawful a e in
-            let x = found l lawful a m.grid m.matches in
+            let x = match_leaf l lawful a m.grid m.matches in
             absurd (false≢true (sym (not_done a x) ∙ all_done x.depth (leaf x.box) x.part))
 
       pub none_need : need l ≡ n
@@ -339,14 +339,14 @@ module _ (l : Land) (lawful : IsLawful l) where
           ap (λ o. count (λ e b. is_needed l o b) 0 (tree_of l)) none_is ∙ same
 
     -- a box waits: more boxes are needed, and the first of those that wait has the next rank
-    module _ (q : Spot) (c : Span) (here : f q ≡ Some c) (least : (z : Spot) (b : Span) → f z ≡ Some b → first z q ≡ false) where
+    module _ (q : Spot) (c : Span) (here : f q ≡ Some c) (least : (z : Spot) (b : Span) → f z ≡ Some b → precedes z q ≡ false) where
       a : IsAt l q c
       a = s.waits q c here
 
       pub next_rank : rank l q ≡ n
       next_rank =
-          let more = count_le l (done_in l last) (λ e b. first (spot_of l e b) q) (tree_of l) 0 (λ e v i x. done_before last (spot_of l e (root v)) q (s.later q c here) x) in
-          let less = count_le l (λ e b. first (spot_of l e b) q) (done_in l last) (tree_of l) 0 (λ e v i x. by (done_in l last e (root v)) (λ y. y)
+          let more = count_le l (done_in l last) (λ e b. precedes (spot_of l e b) q) (tree_of l) 0 (λ e v i x. done_before last (spot_of l e (root v)) q (s.later q c here) x) in
+          let less = count_le l (λ e b. precedes (spot_of l e b) q) (done_in l last) (tree_of l) 0 (λ e v i x. by (done_in l last e (root v)) (λ y. y)
           (λ y.
           let w = s.covers e v i y in
           let low = least (spot_of l w.depth (root w.above)) (root w.above) w.waits in
@@ -361,7 +361,7 @@ module _ (l : Land) (lawful : IsLawful l) where
           omega (arith, more, s.counted)
       more_needed (Some r) e =
           let m = first_is l lawful r e in
-          let x = found l lawful r m.grid m.matches in
+          let x = match_leaf l lawful r m.grid m.matches in
           let itself : is_needed l (Some r) x.box ≡ true = ap not (subst (λ w. is_before l r w ≡ false) (sym x.corner) (never_before_itself l r)) in
           let more = count_lt l (done_in l last) (λ k b. is_needed l (Some r) b) (tree_of l) 0 x.depth (leaf x.box)
           (λ k v i y. ap not (subst (λ w. is_before l w (root v).lo ≡ false) x.corner

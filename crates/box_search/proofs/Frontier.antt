@@ -1,4 +1,4 @@
--- What judging one more box keeps.
+-- Judging one more box preserves the invariant of a search.
 use Rattle.std.proofs.Common.{◌≡◌, ◌+◌, ◌≤◌, not, ℕ, List, [], ◌∷◌, ◌++◌, Bool, true, false, length, get_or, if◌then◌else◌, refl, sym, ap, subst, ◌∙◌, ◌⊎◌, inl, inr, length-append, arith}
 use Rattle.std.specs.Prelude.{All, Option, Some, None}
 use Rattle.std.specs.List.{Contains}
@@ -19,13 +19,13 @@ use Rattle.box_specs.specs.Splits.{cut_of, lower_half, upper_half}
 use Rattle.box_specs.specs.Tree.{Spot, Tree, count, fork, leaf, root, spot_cmp, spot_of, tree_of}
 use Rattle.box_specs.specs.Validity.{is_pass_line, is_undecided_line}
 use Rattle.box_specs.proofs.Cuts.{from_lower, from_upper, in_lower, in_upper, not_both as not_both_halves}
-use Rattle.box_search.specs.Frontier.{IsAt, IsCovered, IsOpen, State, done_in, is_done, with_entry, without}
-use Rattle.box_search.proofs.Orders.{IsTied, by, equal_one, equal_spot, equal_two, first, key_not_before, not_after, not_both, not_itself, on_before, same_list, same_number, spots_are_ordered, tied, tied_keys}
+use Rattle.box_search.specs.Frontier.{IsAt, IsCovered, IsUndecided, State, done_in, is_done, with_entry, without}
+use Rattle.box_search.proofs.Orders.{IsTied, by, equal_one, equal_spot, equal_two, key_not_before, not_after, not_both, not_itself, on_before, precedes, same_list, same_number, spots_are_ordered, tied, tied_keys}
 use Rattle.box_search.proofs.Ranks.{alike, at_sound, at_tree, below_after, not_false, not_true, whole}
-use Rattle.box_search.proofs.Trees.{IsSound, IsTree, disjoint, corner_within, count_le, count_lt, halved, inside_itself, part_deep, part_inside, part_tree, sound_of, within_inside}
+use Rattle.box_search.proofs.Trees.{IsSound, IsSoundTree, corner_within, count_le, count_lt, disjoint, halved, inside_itself, part_deep, part_inside, part_tree, sound_of, within_inside}
 use Rattle.box_search.proofs.Walks.{undecided}
 
--- places that compare equal are one
+-- places that compare equal are the same
 pub spot_same : (a b : Spot) → is_eq (spot_cmp a b) ≡ true → a ≡ b
 spot_same a b h = go (spot_cmp a b) refl h where
   go : (o : Ordering) → spot_cmp a b ≡ o → is_eq o ≡ true → a ≡ b
@@ -68,8 +68,8 @@ without_cases {X} q f z b h = go (is_eq (spot_cmp q z)) refl h where
   go false e y = (e, y)
 
 module _ (l : Land) where
-  -- two parts at one depth with a recipe in common are one part
-  pub shared_part : (t : Tree) (k d : ℕ) (u v : Tree) (r : List ℕ) → IsTree l t → IsPart l t k d u → IsPart l t k d v → IsWithin r (root u) → IsWithin r (root v) → u ≡ v
+  -- two parts at the same depth with a recipe in common are the same part
+  pub shared_part : (t : Tree) (k d : ℕ) (u v : Tree) (r : List ℕ) → IsSoundTree l t → IsPart l t k d u → IsPart l t k d v → IsWithin r (root u) → IsWithin r (root v) → u ≡ v
   shared_part (leaf b) k d u v r i h m x y = sym h.1 ∙ m.1
   shared_part (fork b s t) k d u v r i (inl h) (inl m) x y = sym h.1 ∙ m.1
   shared_part (fork b s t) k d u v r i (inl h) (inr (inl m)) x y = absurd (omega (arith, h.0, part_deep l s (k + 1) d v m))
@@ -85,14 +85,13 @@ module _ (l : Land) where
   pub corner_in_box : (b : Span) → IsSound l b → IsWithin b.lo b
   corner_in_box b s = corner_within l b b s.box (inside_itself l b)
 
-  -- two parts at one depth with one corner are one part
-  pub same_part : (t : Tree) (k d : ℕ) (u v : Tree) → IsTree l t → IsPart l t k d u → IsPart l t k d v → (root u).lo ≡ (root v).lo → u ≡ v
+  -- two parts at the same depth with the same lower corner are the same part
+  pub same_part : (t : Tree) (k d : ℕ) (u v : Tree) → IsSoundTree l t → IsPart l t k d u → IsPart l t k d v → (root u).lo ≡ (root v).lo → u ≡ v
   same_part t k d u v i h m e =
       let x = corner_in_box (root u) (sound_of l u (part_tree l t k d u i h)) in
       let y = corner_in_box (root v) (sound_of l v (part_tree l t k d v i m)) in
       shared_part t k d u v (root u).lo i h m x (subst (λ r. IsWithin r (root v)) (sym e) y)
 
-  -- one place more at most
   if_one : (b : Bool) → (if b then 1 else 0) ≤ 1
   if_one true = omega arith
   if_one false = omega arith
@@ -101,17 +100,19 @@ module _ (l : Land) where
     abbrev Only : Tree → ℕ → Type 0
     Only t k = (e : ℕ) (v : Tree) → IsPart l t k e v → q e (root v) ≡ true → (p e (root v) ≡ true) ⊎ ((e ≡ d) × ((root v).lo ≡ r))
 
-    lower_corner : (b : Span) (s t : Tree) (k e : ℕ) (v : Tree) → IsTree l (fork b s t) → IsPart l s (k + 1) e v → (root v).lo ≡ r → IsWithin r (lower_half b (cut_of b))
+    lower_corner : (b : Span) (s t : Tree) (k e : ℕ) (v : Tree) → IsSoundTree l (fork b s t) → IsPart l s (k + 1) e v → (root v).lo ≡ r → IsWithin r (lower_half b (cut_of b))
     lower_corner b s t k e v i h x =
         let y = sound_of l v (part_tree l s (k + 1) e v i.4 h) in
         subst (λ w. IsWithin w (lower_half b (cut_of b))) x (subst (λ c. IsWithin (root v).lo c) i.2 (corner_within l (root v) (root s) y.box (part_inside l s (k + 1) e v i.4 h)))
 
-    upper_corner : (b : Span) (s t : Tree) (k e : ℕ) (v : Tree) → IsTree l (fork b s t) → IsPart l t (k + 1) e v → (root v).lo ≡ r → IsWithin r (upper_half b (cut_of b))
+    upper_corner : (b : Span) (s t : Tree) (k e : ℕ) (v : Tree) → IsSoundTree l (fork b s t) → IsPart l t (k + 1) e v → (root v).lo ≡ r → IsWithin r (upper_half b (cut_of b))
     upper_corner b s t k e v i h x =
         let y = sound_of l v (part_tree l t (k + 1) e v i.5 h) in
         subst (λ w. IsWithin w (upper_half b (cut_of b))) x (subst (λ c. IsWithin (root v).lo c) i.3 (corner_within l (root v) (root t) y.box (part_inside l t (k + 1) e v i.5 h)))
 
-    pub count_more : (t : Tree) (k : ℕ) → IsTree l t → Only t k → count q k t ≤ count p k t + 1
+    -- where each part that passes q passes p too, or has the depth d and the lower corner r, at
+    -- most one more part passes q than p
+    pub count_more : (t : Tree) (k : ℕ) → IsSoundTree l t → Only t k → count q k t ≤ count p k t + 1
     count_more (leaf b) k i h =
         let x = if_one (q k b) in
         omega (arith, x)
@@ -120,7 +121,7 @@ module _ (l : Land) where
           N : ℕ
           N = count p k (fork b s t)
 
-          -- where the root has no place more, one half has none
+          -- the recipe r lies in one half at most, so in the other half no more parts pass q than p
           halves_ : count q (k + 1) s ≤ count p (k + 1) s + 1 → count q (k + 1) t ≤ count p (k + 1) t + 1
               → count q (k + 1) s + count q (k + 1) t ≤ count p (k + 1) s + count p (k + 1) t + 1
           halves_ low high = elim (cases_lt (cut_of b).mid (get_or r (cut_of b).dye 0)) as (λ _. count q (k + 1) s + count q (k + 1) t ≤ count p (k + 1) s + count p (k + 1) t + 1) [
@@ -144,7 +145,8 @@ module _ (l : Land) where
                 omega (arith, none, low)
           ]
 
-          -- where it has, no half has
+          -- where the root has the depth d, all other parts are deeper, so in neither half do more
+          -- parts pass q than p
           deeper : k ≡ d → (count q (k + 1) s ≤ count p (k + 1) s) × (count q (k + 1) t ≤ count p (k + 1) t)
           deeper at = (
             count_le l q p s (k + 1) (λ e v m x. elim (h e v (inr (inl m)) x) as (λ _. p e (root v) ≡ true) [
@@ -181,7 +183,7 @@ part_trans l (fork b s t) k d e u v (inl h) m = back (sym h.0) (subst (λ w. IsP
 part_trans l (fork b s t) k d e u v (inr (inl h)) m = inr (inl (part_trans l s (k + 1) d e u v h m))
 part_trans l (fork b s t) k d e u v (inr (inr h)) m = inr (inr (part_trans l t (k + 1) d e u v h m))
 
-pub equal_test : (a b : Spot) → first a b ≡ false → first b a ≡ false → is_eq (spot_cmp a b) ≡ true
+pub equal_test : (a b : Spot) → precedes a b ≡ false → precedes b a ≡ false → is_eq (spot_cmp a b) ≡ true
 equal_test a b h k = ap is_eq (equal_spot a b h k)
 
 -- judging the first box that waits
@@ -197,20 +199,21 @@ module _ (l : Land) (lawful : IsLawful l) (f fnew : Spot → Option Span) (g : S
     pub depth : z.depth ≡ d + 1
     pub place : z ≡ spot_of l z.depth b
 
-  -- the map of the boxes that wait afterwards
+  -- the boxes that wait once this one is judged: others that waited before, and children of this
+  -- one
   pub record Turned : Type 0 where
     pub new : (z : Spot) (b : Span) → fnew z ≡ Some b → ((f z ≡ Some b) × (is_eq (spot_cmp Q z) ≡ false)) ⊎ IsChild z b
     pub keeps : (z : Spot) (b : Span) → IsAt l z b → f z ≡ Some b → is_eq (spot_cmp Q z) ≡ false → fnew z ≡ Some b
     pub below : (e : ℕ) (v : Tree) → IsPart l u d e v → ((e ≡ d) × (v ≡ u)) ⊎ IsCovered l fnew e v
 
   module _ (s : State l f g last n listed None) (here : f Q ≡ Some (root u)) (at_u : IsPart l (tree_of l) 0 d u)
-      (least : (z : Spot) (b : Span) → f z ≡ Some b → first z Q ≡ false) (t : Turned) where
-    -- a judged place stands before this one
-    earlier : (z : Spot) → is_done last z ≡ true → first z Q ≡ true
+      (least : (z : Spot) (b : Span) → f z ≡ Some b → precedes z Q ≡ false) (t : Turned) where
+    -- each place judged so far stands before this one
+    earlier : (z : Spot) → is_done last z ≡ true → precedes z Q ≡ true
     earlier z h = go last (s.later Q (root u) here) h where
-      go : (o : Option Spot) → is_done o Q ≡ false → is_done o z ≡ true → first z Q ≡ true
+      go : (o : Option Spot) → is_done o Q ≡ false → is_done o z ≡ true → precedes z Q ≡ true
       go None x y = absurd (false≢true y)
-      go (Some p) x y = on_before z p Q (not_true (first p z) y) (not_false (first p Q) x)
+      go (Some p) x y = on_before z p Q (not_true (precedes p z) y) (not_false (precedes p Q) x)
 
     older : (z : Spot) → is_done last z ≡ true → is_done (Some Q) z ≡ true
     older z h = ap not (not_both z Q (earlier z h))
@@ -227,7 +230,7 @@ module _ (l : Land) (lawful : IsLawful l) (f fnew : Spot → Option Span) (g : S
         let low = least (spot_of l c.depth (root c.above)) (root c.above) c.waits in
         let high = below_after l lawful c.above v c.depth e (at_tree l lawful c.depth c.above c.at) c.below in
         let after = not_after Q (spot_of l c.depth (root c.above)) (spot_of l e (root v)) low high in
-        inr (tied_part e v i (tied Q (spot_of l e (root v)) (not_true (first Q (spot_of l e (root v))) h) after)))
+        inr (tied_part e v i (tied Q (spot_of l e (root v)) (not_true (precedes Q (spot_of l e (root v))) h) after)))
 
     itself : done_in l (Some Q) d (root u) ≡ true
     itself = ap not (not_itself Q)
@@ -235,7 +238,7 @@ module _ (l : Land) (lawful : IsLawful l) (f fnew : Spot → Option Span) (g : S
     not_yet : done_in l last d (root u) ≡ false
     not_yet = s.later Q (root u) here
 
-    -- the counts
+    -- one more box is judged
     counted : count (done_in l (Some Q)) 0 (tree_of l) ≡ n + 1
     counted =
         let less = count_lt l (done_in l last) (done_in l (Some Q)) (tree_of l) 0 d u (λ e v i x. older (spot_of l e (root v)) x) at_u not_yet itself in
@@ -246,7 +249,7 @@ module _ (l : Land) (lawful : IsLawful l) (f fnew : Spot → Option Span) (g : S
         ]) in
         omega (arith, less, more, s.counted)
 
-    -- the lines
+    -- each judged box has its line, and no other box has one
     written : (e : ℕ) (v : Tree) → IsPart l (tree_of l) 0 e v
         → with_entry Q (line_of l (root u)) g (spot_of l e (root v)) ≡ (if done_in l (Some Q) e (root v) then Some (line_of l (root v)) else None)
     written e v i = go (is_eq (spot_cmp Q (spot_of l e (root v)))) refl where
@@ -279,9 +282,9 @@ module _ (l : Land) (lawful : IsLawful l) (f fnew : Spot → Option Span) (g : S
       }
     ]
 
-    -- no place that waits is as early as this one
-    not_tied : (z : Spot) (b : Span) → f z ≡ Some b → is_eq (spot_cmp Q z) ≡ false → first Q z ≡ true
-    not_tied z b h x = by (first Q z) (λ y. y)
+    -- each other box that waits stands after this one
+    not_tied : (z : Spot) (b : Span) → f z ≡ Some b → is_eq (spot_cmp Q z) ≡ false → precedes Q z ≡ true
+    not_tied z b h x = by (precedes Q z) (λ y. y)
         (λ y.
         let a = s.waits z b h in
         let low = least z b h in
@@ -293,14 +296,14 @@ module _ (l : Land) (lawful : IsLawful l) (f fnew : Spot → Option Span) (g : S
       | inr c ↦
           let up = below_after l lawful u c.part d (d + 1) (at_tree l lawful d u at_u) c.at in
           let at : spot_of l (d + 1) (root c.part) ≡ z = (λ i. spot_of l (sym c.depth i) (c.box i)) ∙ sym c.place in
-          let apart_ : first Q (spot_of l (d + 1) (root c.part)) ≡ true = by (first Q (spot_of l (d + 1) (root c.part))) (λ y. y)
+          let apart_ : precedes Q (spot_of l (d + 1) (root c.part)) ≡ true = by (precedes Q (spot_of l (d + 1) (root c.part))) (λ y. y)
           (λ y. absurd (not_next d (tied Q (spot_of l (d + 1) (root c.part)) y up).depth)) in
-          ap not (subst (λ w. first Q w ≡ true) at apart_)
+          ap not (subst (λ w. precedes Q w ≡ true) at apart_)
     ] where
       not_next : (m : ℕ) → m ≡ m + 1 → ⊥
       not_next m e = omega (arith, e)
 
-    -- a recipe of a child is one of this box, and of no other box that waits
+    -- a recipe of a child is a recipe of the judged box, and of no other box that waits
     of_child : (z : Spot) (b : Span) (r : List ℕ) → IsChild z b → IsWithin r b → IsWithin r (root u)
     of_child z b r c x =
         within_inside l r b (root u) x (subst (λ a. IsInside a (root u)) c.box (part_inside l u d (d + 1) c.part (at_tree l lawful d u at_u) c.at))
@@ -358,18 +361,18 @@ module _ (l : Land) (lawful : IsLawful l) (f fnew : Spot → Option Span) (g : S
       | inr c ↦ omega (arith, c.depth, s.shallow Q (root u) here)
     ]
 
-    -- the undecided recipes
+    -- the undecided recipes, with that of this box or without it
     abbrev pub one_more : Bool → List (List ℕ)
     one_more c = if c then listed ++ (root u).lo ∷ [] else listed
 
-    older_open : (r : List ℕ) → IsOpen l last r → IsOpen l (Some Q) r
-    older_open r o = record { depth = o.depth; part = o.part; at = o.at; judged = older (spot_of l o.depth (root o.part)) o.judged; line = o.line; corner = o.corner }
+    older_undecided : (r : List ℕ) → IsUndecided l last r → IsUndecided l (Some Q) r
+    older_undecided r o = record { depth = o.depth; part = o.part; at = o.at; judged = older (spot_of l o.depth (root o.part)) o.judged; line = o.line; corner = o.corner }
 
-    alone : (v : Tree) → IsTree l v → is_single (root v) ≡ true → leaf (root v) ≡ v
+    alone : (v : Tree) → IsSoundTree l v → is_single (root v) ≡ true → leaf (root v) ≡ v
     alone (leaf b) i h = refl
     alone (fork b x y) i h = absurd (false≢true (sym i.1 ∙ or_right (is_shut l b) (is_single b) h))
 
-    before_this : is_undecided_line (line_of l (root u)) ≡ true → (r : List ℕ) → IsOpen l last r → is_before l r (root u).lo ≡ true
+    before_this : is_undecided_line (line_of l (root u)) ≡ true → (r : List ℕ) → IsUndecided l last r → is_before l r (root u).lo ≡ true
     before_this h r o =
         let v = o.part in
         let i = at_tree l lawful o.depth v o.at in
@@ -386,16 +389,16 @@ module _ (l : Land) (lawful : IsLawful l) (f fnew : Spot → Option Span) (g : S
         let z = alike l lawful d o.depth (root u) v leaf_u o.at (sym same) in
         let depth : o.depth ≡ d = omega (arith, x, z) in
         let spots = not_itself Q in
-        absurd (false≢true (sym spots ∙ subst (λ w. first w Q ≡ true) (λ k. record { key = key_of l (same k); depth = depth k }) soon))))
+        absurd (false≢true (sym spots ∙ subst (λ w. precedes w Q ≡ true) (λ k. record { key = key_of l (same k); depth = depth k }) soon))))
 
     rising : (c : Bool) → (c ≡ true → is_undecided_line (line_of l (root u)) ≡ true) → IsRising l (one_more c)
     rising false h = s.rising
-    rising true h = all_pairs_push (λ a b. is_before l a b ≡ true) listed (root u).lo s.rising (λ k w x. before_this (h refl) (get_or listed k w) (All-get_or (IsOpen l last) listed k w x s.each))
+    rising true h = all_pairs_push (λ a b. is_before l a b ≡ true) listed (root u).lo s.rising (λ k w x. before_this (h refl) (get_or listed k w) (All-get_or (IsUndecided l last) listed k w x s.each))
 
-    each : (c : Bool) → (c ≡ true → is_undecided_line (line_of l (root u)) ≡ true) → All (IsOpen l (Some Q)) (one_more c)
-    each false h = All-weaker (IsOpen l last) (IsOpen l (Some Q)) older_open listed s.each
+    each : (c : Bool) → (c ≡ true → is_undecided_line (line_of l (root u)) ≡ true) → All (IsUndecided l (Some Q)) (one_more c)
+    each false h = All-weaker (IsUndecided l last) (IsUndecided l (Some Q)) older_undecided listed s.each
     each true h =
-        All-push (IsOpen l (Some Q)) listed (root u).lo (All-weaker (IsOpen l last) (IsOpen l (Some Q)) older_open listed s.each)
+        All-push (IsUndecided l (Some Q)) listed (root u).lo (All-weaker (IsUndecided l last) (IsUndecided l (Some Q)) older_undecided listed s.each)
         (record { depth = d; part = u; at = at_u; judged = itself; line = h refl; corner = refl })
 
     every : (c : Bool) → (c ≡ is_undecided_line (line_of l (root u))) → (e : ℕ) (v : Tree) → IsPart l (tree_of l) 0 e v → done_in l (Some Q) e (root v) ≡ true → is_undecided_line (line_of l (root v)) ≡ true

@@ -12,26 +12,26 @@ use Rattle.box_search.specs.Places.{at, place, place_cmp, spot}
 use Rattle.box_search.specs.declared.place.Place.{Place}
 use Rattle.box_search.proofs.Endings.{equal_itself}
 use Rattle.box_search.proofs.Frontier.{spot_same}
-use Rattle.box_search.proofs.Orders.{first, not_both, not_itself, turned}
+use Rattle.box_search.proofs.Orders.{not_both, not_itself, precedes, precedes_swapped}
 
-module _ (q : Spot) (b : Span) (f : Spot → Option Span) (ahead : (z : Spot) (c : Span) → f z ≡ Some c → first q z ≡ true) where
+module _ (q : Spot) (b : Span) (f : Spot → Option Span) (ahead : (z : Spot) (c : Span) → f z ≡ Some c → precedes q z ≡ true) where
   -- the map has no box at the place of the one in hand
   absent : (z : Spot) → is_eq (spot_cmp q z) ≡ true → f z ≡ None
   absent z e = go (f z) refl where
     go : (o : Option Span) → f z ≡ o → f z ≡ None
     go None h = h
-    go (Some c) h = absurd (false≢true (sym (not_itself q) ∙ subst (λ y. first q y ≡ true) (sym (spot_same q z e)) (ahead z c h)))
+    go (Some c) h = absurd (false≢true (sym (not_itself q) ∙ subst (λ y. precedes q y ≡ true) (sym (spot_same q z e)) (ahead z c h)))
 
-  behind : (z : Spot) → IsSome (f z) → first z q ≡ false
+  behind : (z : Spot) → IsSome (f z) → precedes z q ≡ false
   behind z h = go (f z) refl h where
-    go : (o : Option Span) → f z ≡ o → IsSome o → first z q ≡ false
+    go : (o : Option Span) → f z ≡ o → IsSome o → precedes z q ≡ false
     go None e k = absurd (false≢true k)
     go (Some c) e k = not_both q z (ahead z c e)
 
   least : (z : Spot) → IsSome (with_entry q b f z) → is_gt (spot_cmp q z) ≡ false
-  least z h = sym (turned z q) ∙ go (is_eq (spot_cmp q z)) refl h where
-    go : (t : Bool) → is_eq (spot_cmp q z) ≡ t → IsSome (if t then Some b else f z) → first z q ≡ false
-    go true e k = subst (λ y. first y q ≡ false) (spot_same q z e) (not_itself q)
+  least z h = sym (precedes_swapped z q) ∙ go (is_eq (spot_cmp q z)) refl h where
+    go : (t : Bool) → is_eq (spot_cmp q z) ≡ t → IsSome (if t then Some b else f z) → precedes z q ≡ false
+    go true e k = subst (λ y. precedes y q ≡ false) (spot_same q z e) (not_itself q)
     go false e k = behind z k
 
   taken : (z : Spot) → f z ≡ without q (with_entry q b f) z
@@ -47,11 +47,11 @@ module _ (q : Spot) (b : Span) (f : Spot → Option Span) (ahead : (z : Spot) (c
     taken = taken;
   }
 
--- a box in hand is the first
+-- a box in hand is the first of those that wait
 pub hand_first : (hand : Option (Place × Span)) (p : Place × Span) (f : Spot → Option Span) → hand ≡ Some p → IsAhead hand f → IsFirst (with_hand hand f) (spot p.0) p.1 f
 hand_first hand p f e ahead = subst (λ h. IsFirst (with_hand h f) (spot p.0) p.1 f) (sym e) (entry_first (spot p.0) p.1 f (subst (λ h. IsAhead h f) e ahead))
 
--- with none in hand it is the first of the map
+-- with none in hand, the first box of the map is the first of those that wait
 pub map_first : (hand result : Option (Place × Span)) (m new : BTreeMap Place Span) → hand ≡ None
     → IfSome result (λ p. get place_cmp m p.0 ≡ Some p.1) → IfSome result (λ p. IsLowerBound place_cmp m p.0) → IfSome result (λ p. Updates place_cmp m new p.0 None)
     → IfSome result (λ p. IsFirst (with_hand hand (at m)) (spot p.0) p.1 (at new))

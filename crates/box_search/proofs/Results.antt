@@ -15,7 +15,7 @@ use Rattle.box_specs.specs.Validity.{corners, is_undecided_line}
 use Rattle.box_search.specs.Laws.{ResultIsCanonical, ResultIsOne}
 use Rattle.box_search.specs.Result.{answer_claim, claim_at, corner_cost, first_box, floor_at, in_order, search_result}
 use Rattle.box_search.proofs.Frontier.{count_more}
-use Rattle.box_search.proofs.Orders.{IsTied, by, first, not_itself, tied}
+use Rattle.box_search.proofs.Orders.{IsTied, by, not_itself, precedes, tied}
 use Rattle.box_search.proofs.Ranks.{At, ge_test, lt_test, rank_lt, test_lt, whole}
 use Rattle.box_search.proofs.Rising.{order_each, order_every, order_is, order_rises}
 use Rattle.box_search.proofs.Trees.{count_le, count_lt, part_root}
@@ -23,28 +23,29 @@ use Rattle.box_search.proofs.Trees.{count_le, count_lt, part_root}
 tested : (m n : ℕ) → m == n ≡ true → m ≡ n
 tested m n h = grind (arith, nat_tests, h)
 
--- the first box that passes a test is one that does, and where there is none no box passes
+-- a part of the tree that passes the test
 record Passing (l : Land) (test : ℕ → Span → Bool) (k : ℕ) (t : Tree) : Type 0 where
   pub depth : ℕ
   pub part : Tree
   pub at : IsPart l t k depth part
   pub passes : test depth (root part) ≡ true
 
-record IsFirst (l : Land) (test : ℕ → Span → Bool) (k : ℕ) (t : Tree) (b : Span) : Type 0 where
+record IsPassing (l : Land) (test : ℕ → Span → Bool) (k : ℕ) (t : Tree) (b : Span) : Type 0 where
   pub of : Passing l test k t
   pub is : root of.part ≡ b
 
 abbrev Tells : Land → (ℕ → Span → Bool) → ℕ → Tree → Option Span → Type 0
 Tells l test k t None = (e : ℕ) (v : Tree) → IsPart l t k e v → test e (root v) ≡ false
-Tells l test k t (Some b) = IsFirst l test k t b
+Tells l test k t (Some b) = IsPassing l test k t b
 
 module _ (l : Land) (test : ℕ → Span → Bool) where
-  here : (k : ℕ) (t : Tree) → test k (root t) ≡ true → IsFirst l test k t (root t)
+  here : (k : ℕ) (t : Tree) → test k (root t) ≡ true → IsPassing l test k t (root t)
   here k t h = record { of = record { depth = k; part = t; at = part_root l t k; passes = h }; is = refl }
 
   not_here : (k e : ℕ) (t v : Tree) → k ≡ e → t ≡ v → test k (root t) ≡ false → test e (root v) ≡ false
   not_here k e t v x y h = (λ i. test (sym x i) (root (sym y i))) ∙ h
 
+  -- `first_box` gives a box that passes the test, or none where no box of the tree passes
   first_tells : (k : ℕ) (t : Tree) → Tells l test k t (first_box test k t)
   first_tells k (leaf b) = go (test k b) refl where
     go : (c : Bool) → test k b ≡ c → Tells l test k (leaf b) (if c then Some b else None)
@@ -68,9 +69,8 @@ module _ (l : Land) (lawful : IsLawful l) where
   abbrev has_rank : ℕ → ℕ → Span → Bool
   has_rank n d b = rank l (spot_of l d b) == n
 
-  -- two boxes of one rank have one recipe and one depth
-  not_first : (d e : ℕ) (u v : Tree) → At l lawful d u → rank_at d (root u) ≡ rank_at e (root v) → first (spot_of l d (root u)) (spot_of l e (root v)) ≡ false
-  not_first d e u v i same = by (first (spot_of l d (root u)) (spot_of l e (root v)))
+  not_preceding : (d e : ℕ) (u v : Tree) → At l lawful d u → rank_at d (root u) ≡ rank_at e (root v) → precedes (spot_of l d (root u)) (spot_of l e (root v)) ≡ false
+  not_preceding d e u v i same = by (precedes (spot_of l d (root u)) (spot_of l e (root v)))
       (λ x.
       let less = rank_lt l lawful d u (spot_of l e (root v)) i x in
       absurd (never (rank_at d (root u)) (rank_at e (root v)) less same))
@@ -78,8 +78,9 @@ module _ (l : Land) (lawful : IsLawful l) where
         never : (m n : ℕ) → m < n → m ≡ n → ⊥
         never m n h k = omega (arith, h, k)
 
+  -- two boxes of the same rank have the same lower corner and the same depth
   one_rank : (d e : ℕ) (u v : Tree) → At l lawful d u → At l lawful e v → rank_at d (root u) ≡ rank_at e (root v) → IsTied (spot_of l d (root u)) (spot_of l e (root v))
-  one_rank d e u v i j same = tied (spot_of l d (root u)) (spot_of l e (root v)) (not_first d e u v i same) (not_first e d v u j (sym same))
+  one_rank d e u v i j same = tied (spot_of l d (root u)) (spot_of l e (root v)) (not_preceding d e u v i same) (not_preceding e d v u j (sym same))
 
   -- how many boxes have a rank below a number
   abbrev pub below : ℕ → ℕ
@@ -153,9 +154,9 @@ module _ (l : Land) (lawful : IsLawful l) where
   all_below : all_boxes ≤ below all_boxes
   all_below = count_le l (λ d b. true) (is_judged l all_boxes) (tree_of l) 0
       (λ d u i x. lt_test (rank_at d (root u)) all_boxes
-      (count_lt l (λ e b. first (spot_of l e b) (spot_of l d (root u))) (λ e b. true) (tree_of l) 0 d u (λ e v j y. refl) i (not_itself (spot_of l d (root u))) refl))
+      (count_lt l (λ e b. precedes (spot_of l e b) (spot_of l d (root u))) (λ e b. true) (tree_of l) 0 d u (λ e v j y. refl) i (not_itself (spot_of l d (root u))) refl))
 
-  -- there is a box of each rank below their number
+  -- for each number below that of all boxes there is a box of that rank
   box_of : (m : ℕ) → m < all_boxes → Passing l (has_rank m) 0 (tree_of l)
   box_of m h = go (first_box (has_rank m) 0 (tree_of l)) (first_tells l (has_rank m) 0 (tree_of l)) where
     rest : below all_boxes ≤ below (m + 1) + (all_boxes - (m + 1))
@@ -173,7 +174,7 @@ module _ (l : Land) (lawful : IsLawful l) where
   need_few : need l ≤ all_boxes
   need_few = count_le l (λ d b. is_needed l (answer_of l) b) (λ d b. true) (tree_of l) 0 (λ d u i x. refl)
 
-  -- the cost of a floor
+  -- the lower corner of a box whose rank is the budget costs `floor_at l budget`
   floor_is : (budget d : ℕ) (u : Tree) → At l lawful d u → rank_at d (root u) ≡ budget → l.cost (root u).lo ≡ floor_at l budget
   floor_is budget d u i r = go (first_box (has_rank budget) 0 (tree_of l)) (first_tells l (has_rank budget) 0 (tree_of l)) where
     go : (o : Option Span) → Tells l (has_rank budget) 0 (tree_of l) o → l.cost (root u).lo ≡ corner_cost l o

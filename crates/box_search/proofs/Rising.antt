@@ -59,7 +59,6 @@ module _ (l : Land) where
   is_rising (r ∷ rs) h zero (suc j) d a b = All-from_recursion (λ s. is_before l r s ≡ true) rs h.0 j d (omega (arith, b))
   is_rising (r ∷ rs) h (suc i) (suc j) d a b = is_rising rs h.1 i j d (omega (arith, a)) (omega (arith, b))
 
-  -- rising lists of the same recipes are one
   same_heads : (x y : List ℕ) (xs ys : List (List ℕ)) → Rises (x ∷ xs) → Rises (y ∷ ys) → is_listed (y ∷ ys) x ≡ true → is_listed (x ∷ xs) y ≡ true → x ≡ y
   same_heads x y xs ys h k a b = elim (listed_cases y ys x a) as (λ _. x ≡ y) [
     | inl e ↦ e
@@ -80,6 +79,7 @@ module _ (l : Land) where
     behind x y xs ys e h.1 a.1,
   )
 
+  -- two rising lists of the same recipes are equal
   one_list : (xs ys : List (List ℕ)) → Rises xs → Rises ys → AllByRecursion (λ r. is_listed ys r ≡ true) xs → AllByRecursion (λ r. is_listed xs r ≡ true) ys → xs ≡ ys
   one_list [] [] h k a b = refl
   one_list [] (y ∷ ys) h k a b = absurd (false≢true b.0)
@@ -89,7 +89,7 @@ module _ (l : Land) where
       let tail = one_list xs ys h.1 k.1 (behind x y xs ys head h.0 a.1) (behind y x ys xs (sym head) k.0 b.1) in
       λ i. head i ∷ tail i
 
-  -- putting a recipe in its place
+  -- `put_in r xs` has the recipes of xs and r, and no other, and rises where xs does
   put_all : (P : List ℕ → Type 0) (r : List ℕ) (xs : List (List ℕ)) → P r → AllByRecursion P xs → AllByRecursion P (put_in l r xs)
   put_all P r [] p a = (p, tt)
   put_all P r (x ∷ xs) p a = go (put_all P r xs p a.1) (is_before l r x) (is_before l x r) where
@@ -131,7 +131,7 @@ module _ (l : Land) where
   in_order_rises [] = tt
   in_order_rises (x ∷ xs) = put_rises x (in_order l xs) (in_order_rises xs)
 
-  -- recipes in their order are a rising list of the same recipes
+  -- `in_order l xs` is a rising list of the recipes of xs
   pub order_rises : (xs : List (List ℕ)) → IsRising l (in_order l xs)
   order_rises xs = is_rising (in_order l xs) (in_order_rises xs)
 
@@ -146,7 +146,7 @@ module _ (l : Land) where
   are_listed xs ys h = recursion_from_All (λ r. is_listed ys r ≡ true) xs
       (All-weaker (Contains ys) (λ r. is_listed ys r ≡ true) (λ r c. list_any-from_Contains nat_list_eq_equiv r ys c) xs h)
 
-  -- and the only one
+  -- and each rising list of the recipes of xs is that one
   pub order_is : (listed xs : List (List ℕ)) → IsRising l listed → All (Contains xs) listed → All (Contains listed) xs → listed ≡ in_order l xs
   order_is listed xs rising each every =
       let there = order_every xs in

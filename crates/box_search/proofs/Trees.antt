@@ -9,7 +9,7 @@ use Rattle.box_specs.specs.Landscape.{Land, is_final, is_shut}
 use Rattle.box_specs.specs.Span.{IsBox, IsInside, IsWithin, Span, is_single, single}
 use Rattle.box_specs.specs.Splits.{cut_of, lower_half, upper_half}
 use Rattle.box_specs.specs.Tree.{Tree, count, fork, grow, leaf, root, spread, tree_of}
-pub use Rattle.box_search.specs.Trees.{IsSound, IsTree}
+pub use Rattle.box_search.specs.Trees.{IsSound, IsSoundTree}
 use Rattle.box_specs.proofs.Cuts.{Cuts, cut_fits, from_lower, from_upper, in_lower, in_upper, lower_is_box, not_both, upper_is_box}
 
 pub up_to_itself : (a : List ℕ) → IsUpTo a a
@@ -23,7 +23,7 @@ up_to_trans (x ∷ a) [] c h k = absurd h
 up_to_trans (x ∷ a) (y ∷ b) [] h k = absurd k
 up_to_trans (x ∷ a) (y ∷ b) (z ∷ c) h k = (omega (arith, h.0, k.0), up_to_trans a b c h.1 k.1)
 
--- corners that are up to one another are one
+-- two corners, each at most the other, are equal
 pub up_to_both : (a b : List ℕ) → IsUpTo a b → IsUpTo b a → a ≡ b
 up_to_both [] [] h k = refl
 up_to_both [] (y ∷ b) h k = absurd h
@@ -32,7 +32,7 @@ up_to_both (x ∷ a) (y ∷ b) h k =
     let first : x ≡ y = omega (arith, h.0, k.0) in
     λ i. first i ∷ up_to_both a b h.1 k.1 i
 
--- the box of one recipe
+-- a box of one recipe has two equal corners
 pub single_corners : (b : Span) → is_single b ≡ true → b.lo ≡ b.hi
 single_corners b h = (bytes_eq-Decides b.lo b.hi).0 h
 
@@ -64,7 +64,7 @@ module _ (l : Land) where
   pub open_single : (b : Span) → is_final l b ≡ false → is_single b ≡ false
   open_single b h = open_parts (is_shut l b) (is_single b) h
 
-  -- the halves of a box that is split
+  -- what holds of the halves of a box that is split
   pub record Halved (b : Span) : Type 0 where
     pub cuts : Cuts b (cut_of b)
     pub lower : IsSound l (lower_half b (cut_of b))
@@ -90,7 +90,7 @@ module _ (l : Land) where
         upper_in = high_in;
       }
 
-  pub sound_of : (t : Tree) → IsTree l t → IsSound l (root t)
+  pub sound_of : (t : Tree) → IsSoundTree l t → IsSound l (root t)
   sound_of (leaf b) h = h.0
   sound_of (fork b lower upper) h = h.0
 
@@ -104,18 +104,18 @@ module _ (l : Land) where
   final_single : (b : Span) → is_single b ≡ true → is_final l b ≡ true
   final_single b h = or_right (is_shut l b) (is_single b) h
 
-  pub grown : (n : ℕ) (b : Span) → IsSound l b → spread b.lo b.hi ≤ n → IsTree l (grow l n b)
+  pub grown : (n : ℕ) (b : Span) → IsSound l b → spread b.lo b.hi ≤ n → IsSoundTree l (grow l n b)
   grown zero b s h = (s, final_single b ((bytes_eq-Decides b.lo b.hi).1 (no_spread b.lo b.hi s.box (omega (arith, h)))))
   grown (suc n) b s h = go (grown n) (is_final l b) refl where
-    go : ((c : Span) → IsSound l c → spread c.lo c.hi ≤ n → IsTree l (grow l n c)) → (t : Bool) → is_final l b ≡ t
-        → IsTree l (if t then leaf b else fork b (grow l n (lower_half b (cut_of b))) (grow l n (upper_half b (cut_of b))))
+    go : ((c : Span) → IsSound l c → spread c.lo c.hi ≤ n → IsSoundTree l (grow l n c)) → (t : Bool) → is_final l b ≡ t
+        → IsSoundTree l (if t then leaf b else fork b (grow l n (lower_half b (cut_of b))) (grow l n (upper_half b (cut_of b))))
     go below true e = (s, e)
     go below false e =
         let two = halved b s e in
         let less = less_spread b.lo b.hi (cut_of b).dye (cut_of b).mid two.cuts.there two.cuts.low two.cuts.high s.box in
         (s, e, root_grow n _, root_grow n _, below _ two.lower (omega (arith, h, less.0)), below _ two.upper (omega (arith, h, less.1)))
 
-  pub whole_tree : IsBox l.top → IsTree l (tree_of l)
+  pub whole_tree : IsBox l.top → IsSoundTree l (tree_of l)
   whole_tree box = grown (spread l.top.lo l.top.hi) l.top (record { box = box; inside = (up_to_itself l.top.lo, up_to_itself l.top.hi) }) (omega arith)
 
   pub whole_root : root (tree_of l) ≡ l.top
@@ -125,7 +125,8 @@ module _ (l : Land) where
   corner_within b c box h = (h.0, up_to_trans b.lo b.hi c.hi box h.1)
 
 module _ (l : Land) where
-  -- parts
+  -- a tree is a part of itself; its parts stand no higher than it, are trees, and lie inside its
+  -- box
   pub part_root : (t : Tree) (k : ℕ) → IsPart l t k k t
   part_root (leaf b) k = (refl, refl)
   part_root (fork b lower upper) k = inl (refl, refl)
@@ -136,16 +137,16 @@ module _ (l : Land) where
   part_deep (fork b lower upper) k d u (inr (inl h)) = omega (arith, part_deep lower (k + 1) d u h)
   part_deep (fork b lower upper) k d u (inr (inr h)) = omega (arith, part_deep upper (k + 1) d u h)
 
-  pub part_tree : (t : Tree) (k d : ℕ) (u : Tree) → IsTree l t → IsPart l t k d u → IsTree l u
-  part_tree (leaf b) k d u i h = subst (IsTree l) h.1 i
-  part_tree (fork b lower upper) k d u i (inl h) = subst (IsTree l) h.1 i
+  pub part_tree : (t : Tree) (k d : ℕ) (u : Tree) → IsSoundTree l t → IsPart l t k d u → IsSoundTree l u
+  part_tree (leaf b) k d u i h = subst (IsSoundTree l) h.1 i
+  part_tree (fork b lower upper) k d u i (inl h) = subst (IsSoundTree l) h.1 i
   part_tree (fork b lower upper) k d u i (inr (inl h)) = part_tree lower (k + 1) d u i.4 h
   part_tree (fork b lower upper) k d u i (inr (inr h)) = part_tree upper (k + 1) d u i.5 h
 
   pub inside_itself : (b : Span) → IsInside b b
   inside_itself b = (up_to_itself b.lo, up_to_itself b.hi)
 
-  pub part_inside : (t : Tree) (k d : ℕ) (u : Tree) → IsTree l t → IsPart l t k d u → IsInside (root u) (root t)
+  pub part_inside : (t : Tree) (k d : ℕ) (u : Tree) → IsSoundTree l t → IsPart l t k d u → IsInside (root u) (root t)
   part_inside (leaf b) k d u i h = subst (λ v. IsInside (root v) b) h.1 (inside_itself b)
   part_inside (fork b lower upper) k d u i (inl h) = subst (λ v. IsInside (root v) b) h.1 (inside_itself b)
   part_inside (fork b lower upper) k d u i (inr (inl h)) =
@@ -157,21 +158,21 @@ module _ (l : Land) where
   within_inside r b c h k = (up_to_trans c.lo b.lo r k.0 h.0, up_to_trans r b.hi c.hi h.1 k.1)
 
   -- no recipe lies in parts of both halves
-  pub disjoint : (b : Span) (lower upper : Tree) (k d e : ℕ) (u v : Tree) (r : List ℕ) → IsTree l (fork b lower upper) → IsPart l lower k d u → IsPart l upper k e v
+  pub disjoint : (b : Span) (lower upper : Tree) (k d e : ℕ) (u v : Tree) (r : List ℕ) → IsSoundTree l (fork b lower upper) → IsPart l lower k d u → IsPart l upper k e v
       → IsWithin r (root u) → IsWithin r (root v) → ⊥
   disjoint b lower upper k d e u v r i h m x y =
       let low = subst (λ c. IsWithin r c) i.2 (within_inside r _ _ x (part_inside lower k d u i.4 h)) in
       let high = subst (λ c. IsWithin r c) i.3 (within_inside r _ _ y (part_inside upper k e v i.5 m)) in
       not_both b (cut_of b) i.0.box (halved l b i.0 i.1).cuts r low high
 
-  -- the leaf of a recipe
+  -- a leaf whose box has the recipe r
   pub record LeafFor (t : Tree) (k : ℕ) (r : List ℕ) : Type 0 where
     pub depth : ℕ
     pub box : Span
     pub part : IsPart l t k depth (leaf box)
     pub within : IsWithin r box
 
-  pub leaf_for : (t : Tree) (k : ℕ) (r : List ℕ) → IsTree l t → IsWithin r (root t) → LeafFor t k r
+  pub leaf_for : (t : Tree) (k : ℕ) (r : List ℕ) → IsSoundTree l t → IsWithin r (root t) → LeafFor t k r
   leaf_for (leaf b) k r i h = record { depth = k; box = b; part = (refl, refl); within = h }
   leaf_for (fork b lower upper) k r i h = elim (cases_lt (cut_of b).mid (get_or r (cut_of b).dye 0)) as (λ _. LeafFor (fork b lower upper) k r) [
     | inl above ↦
@@ -188,8 +189,8 @@ module _ (l : Land) where
   is_leaf (leaf b) = true
   is_leaf (fork b lower upper) = false
 
-  -- each part that has the recipe of a leaf stands above that leaf
-  pub over : (t : Tree) (k d e : ℕ) (b : Span) (v : Tree) (r : List ℕ) → IsTree l t → IsPart l t k d (leaf b) → IsPart l t k e v → IsWithin r b → IsWithin r (root v)
+  -- each part that has a recipe of a leaf is that leaf or stands above it
+  pub over : (t : Tree) (k d e : ℕ) (b : Span) (v : Tree) (r : List ℕ) → IsSoundTree l t → IsPart l t k d (leaf b) → IsPart l t k e v → IsWithin r b → IsWithin r (root v)
       → IsPart l v e d (leaf b)
   over (leaf c) k d e b v r i h m x y = subst (λ w. IsPart l w e d (leaf b)) m.1 (sym m.0 ∙ h.0, h.1)
   over (fork c lower upper) k d e b v r i h (inl m) x y =
@@ -201,11 +202,11 @@ module _ (l : Land) where
   over (fork c lower upper) k d e b v r i (inr (inr h)) (inr (inl m)) x y = absurd (disjoint c lower upper (k + 1) e d v (leaf b) r i m h y x)
   over (fork c lower upper) k d e b v r i (inr (inr h)) (inr (inr m)) x y = over upper (k + 1) d e b v r i.5 h m x y
 
-  -- counts
   one_le : (a b : Bool) → (a ≡ true → b ≡ true) → (if a then 1 else 0) ≤ (if b then 1 else 0)
   one_le true b h = rw (h refl) (omega arith)
   one_le false b h = omega arith
 
+  -- where each part that passes p passes q too, no more parts pass p than q
   pub count_le : (p q : ℕ → Span → Bool) (t : Tree) (k : ℕ) → ((d : ℕ) (u : Tree) → IsPart l t k d u → p d (root u) ≡ true → q d (root u) ≡ true) → count p k t ≤ count q k t
   count_le p q (leaf b) k h = one_le (p k b) (q k b) (h k (leaf b) (refl, refl))
   count_le p q (fork b lower upper) k h =
@@ -214,7 +215,7 @@ module _ (l : Land) where
       let high = count_le p q upper (k + 1) (λ d u i. h d u (inr (inr i))) in
       omega (arith, here, low, high)
 
-  -- one more part passes
+  -- and fewer do, where one part passes only q
   pub count_lt : (p q : ℕ → Span → Bool) (t : Tree) (k e : ℕ) (v : Tree) → ((d : ℕ) (u : Tree) → IsPart l t k d u → p d (root u) ≡ true → q d (root u) ≡ true)
       → IsPart l t k e v → p e (root v) ≡ false → q e (root v) ≡ true → count p k t < count q k t
   count_lt p q (leaf b) k e v h i m n = go (p k b) (q k b) (back p m) (back q n) where

@@ -13,7 +13,7 @@ use Rattle.box_specs.specs.Splits.{CutAt, cut_of, lower_half, upper_half}
 use Rattle.box_specs.specs.Tree.{Spot}
 use Rattle.box_specs.specs.Validity.{is_undecided_line}
 use Rattle.box_specs.proofs.Cuts.{cut_fits, from_lower, from_upper, lower_is_box, upper_is_box}
-use Rattle.box_search.specs.Answers.{is_open_answer, is_undecided_answer}
+use Rattle.box_search.specs.Answers.{is_open, is_undecided}
 use Rattle.box_search.specs.Frontier.{with_entry}
 use Rattle.box_search.specs.Places.{at, place, place_cmp}
 use Rattle.box_search.specs.declared.place.Place.{Place}
@@ -33,14 +33,14 @@ upper_inside b c top box open_ h e =
     let low = from_upper b (cut_of b) box cuts (upper_half b (cut_of b)).lo (up_to_itself _, half) in
     subst (λ d. IsInside d top) (sym e) (up_to_trans top.lo b.lo (upper_half b (cut_of b)).lo h.0 low.0, h.1)
 
--- a map with one more entry
+-- what a map has once an entry is inserted
 pub entry_at : {X : Type 0} (m new : BTreeMap Place X) (k : Place) (x y : X) (q : Spot)
     → ((p : Place) → get place_cmp new p ≡ cond (is_at (place_cmp k) p) (Some x) (get place_cmp m p)) → k ≡ place q → x ≡ y → (z : Spot) → at new z ≡ with_entry q y (at m) z
 entry_at m new k x y q h e f z = h (place z) ∙ (λ i. cond (is_eq (place_cmp (e i) (place z))) (Some (f i)) (at m z))
 
-pub open_single : (l : Land) (b : Span) (j : Judged) → j ≡ judgement l b → is_open_answer j ≡ true → is_single b ≡ false
-open_single l b j e h = go (limit_of l b) (light_of l b) (is_single b) (l.grade b.lo) (sym (ap is_open_answer e) ∙ h) where
-  go : (x y : Option ℕ) (s : Bool) (g : Grade) → is_open_answer (judged_by l x y s g) ≡ true → s ≡ false
+pub open_single : (l : Land) (b : Span) (j : Judged) → j ≡ judgement l b → is_open j ≡ true → is_single b ≡ false
+open_single l b j e h = go (limit_of l b) (light_of l b) (is_single b) (l.grade b.lo) (sym (ap is_open e) ∙ h) where
+  go : (x y : Option ℕ) (s : Bool) (g : Grade) → is_open (judged_by l x y s g) ≡ true → s ≡ false
   go (Some k) y s g r = absurd (false≢true r)
   go None (Some i) s g r = absurd (false≢true r)
   go None None false g r = refl
@@ -48,10 +48,10 @@ open_single l b j e h = go (limit_of l b) (light_of l b) (is_single b) (l.grade 
   go None None true fails r = absurd (false≢true r)
   go None None true unsure r = absurd (false≢true r)
 
--- what is open is not final
-pub open_final : (l : Land) (b : Span) (t : Bool) → is_open_answer (judgement l b) ≡ t → is_final l b ≡ (if t then false else true)
+-- a box is final exactly where its answer is not open
+pub open_final : (l : Land) (b : Span) (t : Bool) → is_open (judgement l b) ≡ t → is_final l b ≡ (if t then false else true)
 open_final l b t h = go (limit_of l b) (light_of l b) (is_single b) (l.grade b.lo) t h where
-  go : (x y : Option ℕ) (s : Bool) (g : Grade) (u : Bool) → is_open_answer (judged_by l x y s g) ≡ u → (is_some x || is_some y) || s ≡ (if u then false else true)
+  go : (x y : Option ℕ) (s : Bool) (g : Grade) (u : Bool) → is_open (judged_by l x y s g) ≡ u → (is_some x || is_some y) || s ≡ (if u then false else true)
   go (Some k) y s g true r = absurd (false≢true r)
   go (Some k) y s g false r = refl
   go None (Some i) s g true r = absurd (false≢true r)
@@ -63,7 +63,7 @@ open_final l b t h = go (limit_of l b) (light_of l b) (is_single b) (l.grade b.l
   go None None true unsure true r = absurd (false≢true r)
   go None None true g false r = refl
 
-pub undecided_by : (j : Judged) (cut : CutAt) → is_undecided_line (line_by j cut) ≡ is_undecided_answer j
+pub undecided_by : (j : Judged) (cut : CutAt) → is_undecided_line (line_by j cut) ≡ is_undecided j
 undecided_by (Limit k) cut = refl
 undecided_by (Fail i) cut = refl
 undecided_by StillOpen cut = refl

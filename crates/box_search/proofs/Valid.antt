@@ -21,12 +21,12 @@ use Rattle.box_specs.specs.Validity.{IsValid, are_trees, claim_failure, corners,
 use Rattle.price_grid.specs.Grid.{IsUpTo}
 use Rattle.box_specs.proofs.Answers.{answer_is, never_before_itself, not_before_trans}
 use Rattle.box_search.specs.Laws.{CanonicalIsValid}
-use Rattle.box_search.proofs.Orders.{before_by_key, by, cost_not_before, first, key_not_before, not_both, not_deeper, on_before, tied_keys}
+use Rattle.box_search.proofs.Orders.{before_by_key, by, cost_not_before, key_not_before, not_both, not_deeper, on_before, precedes, tied_keys}
 use Rattle.box_search.proofs.Ranks.{alike, at_sound, at_tree, judged_above, lower_rank, needed_is_judged, not_false, not_true, rank_lt, test_ge, test_lt, whole}
-use Rattle.box_search.proofs.Trees.{IsTree, corner_within, count_le, leaf_for, single_corners, up_to_both, whole_root}
+use Rattle.box_search.proofs.Trees.{IsSoundTree, corner_within, count_le, leaf_for, single_corners, up_to_both, whole_root}
 use Rattle.box_search.proofs.Walks.{Fits, IsPoint, corners_are, mark, one_tree, passing, point_line, undecided, walks}
 
--- a recipe of the grid, as a test
+-- a recipe between two corners passes the test `is_within`
 le_test : (m n : ℕ) → m ≤ n → nat_le m n ≡ true
 le_test m n h = grind (arith, nat_tests, h)
 
@@ -42,8 +42,8 @@ within_test (n ∷ r) (x ∷ low) (y ∷ high) h k =
     λ i. low_ok i && high_ok i && rest i
 
 module _ (l : Land) where
-  -- what a match of the grid leads to: a leaf of its own that passes
-  pub record Found (r : List ℕ) : Type 0 where
+  -- the leaf of a match: its lower corner is the recipe, and its line passes
+  pub record MatchLeaf (r : List ℕ) : Type 0 where
     pub depth : ℕ
     pub box : Span
     pub part : IsPart l (tree_of l) 0 depth (leaf box)
@@ -67,8 +67,8 @@ module _ (l : Land) where
   none_of None (Some j) h = absurd (true≢false h)
   none_of None None h = refl
 
-  pub found : IsLawful l → (r : List ℕ) → IsWithin r l.top → is_match l r ≡ true → Found r
-  found lawful r within m =
+  pub match_leaf : IsLawful l → (r : List ℕ) → IsWithin r l.top → is_match l r ≡ true → MatchLeaf r
+  match_leaf lawful r within m =
       let at = leaf_for l (tree_of l) 0 r (whole l lawful) (subst (λ b. IsWithin r b) (sym (whole_root l)) within) in
       let s = at_sound l lawful at.depth (leaf at.box) at.part in
       let final = (at_tree l lawful at.depth (leaf at.box) at.part).1 in
@@ -86,7 +86,7 @@ module _ (l : Land) where
         line = point_line l at.box (record { alone = alone; admitted = subst (λ c. is_admitted l c ≡ true) (sym corner) two.0; no_light = none_of _ _ open_ }) grade;
       }
 
-  -- a passing line is that of a match
+  -- the lower corner of a box whose line passes is a match
   pub line_match : (b : Span) → is_pass_line (line_of l b) ≡ true → is_match l b.lo ≡ true
   line_match b h =
       let p = passing l b h in
@@ -95,7 +95,7 @@ module _ (l : Land) where
   rest_pairs : (p s : List ℕ) (rest : List (List ℕ)) → IsRising l (p ∷ s ∷ rest) → IsRising l (s ∷ rest)
   rest_pairs p s rest h = λ i j d a b. h (suc i) (suc j) d (omega (arith, a)) (omega (arith, b))
 
-  -- the list of recipes holds
+  -- the check of the listed recipes finds no fault in a rising list of good ones
   module _ (claim : Claim) where
     abbrev pub Good : List ℕ → Type 0
     Good r = (is_in_grid l r ≡ true) × (is_early l claim r ≡ true)
@@ -130,12 +130,12 @@ module _ (l : Land) (lawful : IsLawful l) where
   pub first_is : (s : List ℕ) → answer_of l ≡ Some s → IsFirstMatch l s
   first_is s e = subst (IsAnswer l) e answer
 
-  -- the one recipe of a judged part that is no later than the answer, and passes
+  -- the only match among the lower corners of the boxes that are needed is the answer
   claimed_is : (s : List ℕ) → answer_of l ≡ Some s → (d : ℕ) (u : Tree) → IsPart l (tree_of l) 0 d u → is_judged l (need l) d (root u) ≡ true → is_match l (root u).lo ≡ true → s ≡ (root u).lo
   claimed_is s e d u i j m =
       tied_keys (key_of l s) (key_of l (root u).lo) (not_true _ (sym (match_part s e d u i) ∙ j)) ((first_is s e).first (root u).lo (corner_in d u i) m)
 
-  no_fork : (b : Span) (s t : Tree) → IsTree l (fork b s t) → is_single b ≡ true → ⊥
+  no_fork : (b : Span) (s t : Tree) → IsSoundTree l (fork b s t) → is_single b ≡ true → ⊥
   no_fork b s t i h = false≢true (sym i.1 ∙ or_right (is_shut l b) (is_single b) h)
 
   -- under a floor, no judged box passes
@@ -146,10 +146,10 @@ module _ (l : Land) (lawful : IsLawful l) where
     m : is_match l b.lo ≡ true
     m = line_match l b h
 
-    before : first (spot_of l d b) (spot_of l e (root v)) ≡ true
+    before : precedes (spot_of l d b) (spot_of l e (root v)) ≡ true
     before = lower_rank l lawful (spot_of l d b) (spot_of l e (root v)) (subst (λ n. rank l (spot_of l d b) < n) (sym r) (test_lt (rank l (spot_of l d b)) budget j))
 
-    no_later : (f : ℕ) (w : Tree) → IsPart l (tree_of l) 0 f w → is_before l b.lo (root w).lo ≡ false → first (spot_of l d b) (spot_of l f (root w)) ≡ false
+    no_later : (f : ℕ) (w : Tree) → IsPart l (tree_of l) 0 f w → is_before l b.lo (root w).lo ≡ false → precedes (spot_of l d b) (spot_of l f (root w)) ≡ false
     no_later f w q x = by (is_before l (root w).lo b.lo)
         (λ y. not_both (spot_of l f (root w)) (spot_of l d b) (before_by_key (spot_of l f (root w)) (spot_of l d b) y))
         (λ y. not_deeper (spot_of l f (root w)) (spot_of l d b) x (alike l lawful d f b w i q (tied_keys (key_of l b.lo) (key_of l (root w).lo) x y)))
@@ -158,7 +158,7 @@ module _ (l : Land) (lawful : IsLawful l) where
     go None x = false≢true (sym (subst (IsAnswer l) x answer b.lo (corner_in d (leaf b) i)) ∙ m)
     go (Some a) x =
         let late = (first_is a x).first b.lo (corner_in d (leaf b) i) m in
-        let needed = count_le l (λ f c. is_needed l (Some a) c) (λ f c. first (spot_of l f c) (spot_of l e (root v))) (tree_of l) 0
+        let needed = count_le l (λ f c. is_needed l (Some a) c) (λ f c. precedes (spot_of l f c) (spot_of l e (root v))) (tree_of l) 0
         (λ f w q y. on_before (spot_of l f (root w)) (spot_of l d b) (spot_of l e (root v)) (no_later f w q (not_before_trans l b.lo a (root w).lo (not_true _ y) late)) before) in
         let least : need l ≤ rank l (spot_of l e (root v)) = subst (λ o'. count (λ f c. is_needed l o' c) 0 (tree_of l) ≤ rank l (spot_of l e (root v))) (sym x) needed in
         less (need l) budget (rank l (spot_of l e (root v))) more r least where
@@ -166,7 +166,7 @@ module _ (l : Land) (lawful : IsLawful l) where
           less n m k h1 h2 h3 = omega (arith, h1, h2, h3)
 
   module _ (listed : List (List ℕ)) (budget n : ℕ) where
-    -- what the claim says of each part
+    -- each part is as the claim demands
     fits : (claim : Claim) → IsClaim l budget claim → n ≡ min (need l) budget → (d : ℕ) (u : Tree) → IsPart l (tree_of l) 0 d u
         → Fits l (is_judged l n) lawful claim listed d (root u)
     fits (Match recipe) c e d u i =
@@ -199,13 +199,13 @@ module _ (l : Land) (lawful : IsLawful l) where
           costs : (f : ℕ) (v : Tree) → IsPart l (tree_of l) 0 f v → rank l (spot_of l f (root v)) ≡ budget → cost ≡ l.cost (root v).lo → is_judged l budget d (root u) ≡ false
               → nat_le cost (l.cost (root u).lo) ≡ true
           costs f v k r m j =
-              let late : first (spot_of l d (root u)) (spot_of l f (root v)) ≡ false = by (first (spot_of l d (root u)) (spot_of l f (root v)))
+              let late : precedes (spot_of l d (root u)) (spot_of l f (root v)) ≡ false = by (precedes (spot_of l d (root u)) (spot_of l f (root v)))
               (λ x. absurd (less (rank l (spot_of l d (root u))) (rank l (spot_of l f (root v))) budget (rank_lt l lawful d u (spot_of l f (root v)) i x) r (test_ge (rank l (spot_of l d (root u))) budget j)))
               (λ x. x) in
               let dear = cost_not_before (key_of l (root u).lo) (key_of l (root v).lo) (key_not_before (spot_of l d (root u)) (spot_of l f (root v)) late) in
               le_test cost (l.cost (root u).lo) (subst (λ x. x ≤ l.cost (root u).lo) (sym m) dear)
 
-    -- a judged undecided recipe may be listed
+    -- the undecided recipe of a judged box is in the grid, and before the claimed one
     good : (claim : Claim) → IsClaim l budget claim → n ≡ min (need l) budget → (d : ℕ) (u : Tree) → IsPart l (tree_of l) 0 d u → is_judged l n d (root u) ≡ true
         → is_undecided_line (line_of l (root u)) ≡ true → Good l claim (root u).lo
     good claim c e d u i j h = (within_test (root u).lo l.top.lo l.top.hi (corner_in d u i).0 (corner_in d u i).1, early claim c) where
@@ -230,12 +230,12 @@ module _ (l : Land) (lawful : IsLawful l) where
     pub at_top : (W : List Span → List CertLine → Type 0) → W (root (tree_of l) ∷ []) (canonical_lines l n ++ []) → W (l.top ∷ []) (canonical_lines l n)
     at_top W w = subst (λ b. W (b ∷ []) (canonical_lines l n)) (whole_root l) (subst (λ xs. W (root (tree_of l) ∷ []) xs) (append-nil (canonical_lines l n)) w)
 
-    -- the recipe of a match has its line
+    -- the recipe of the claim has a line that passes
     marked : (claim : Claim) → IsClaim l budget claim → n ≡ min (need l) budget → unclaimed_failure l claim (corners is_pass_line (l.top ∷ []) (canonical_lines l n)) ≡ None
     marked (Match recipe) c e =
         let all : n ≡ need l = omega (arith, e, c.0) in
         let f = first_is recipe.items c.1 in
-        let own = found l lawful recipe.items f.grid f.matches in
+        let own = match_leaf l lawful recipe.items f.grid f.matches in
         let late : is_before l recipe.items own.box.lo ≡ false = subst (λ r. is_before l recipe.items r ≡ false) (sym own.corner) (never_before_itself l recipe.items) in
         let judged : is_judged l n own.depth own.box ≡ true = subst (λ m. is_judged l m own.depth own.box ≡ true) (sym all) (match_part recipe.items c.1 own.depth (leaf own.box) own.part ∙ ap not late) in
         let there = mark l (is_judged l n) is_pass_line own.depth (leaf own.box) judged own.line (tree_of l) 0 (whole l lawful) own.part

@@ -16,9 +16,9 @@ use Rattle.box_specs.specs.Splits.{CutAt, cut_of, lower_half, upper_half}
 use Rattle.box_specs.specs.Tree.{Tree, fork, leaf, root}
 use Rattle.box_specs.specs.Validity.{after, are_trees, at_line, corners, is_claimed, is_dear, is_listed, is_pass_line, is_undecided_line, is_unsure, line_failure, line_fault, or_next, splits, unless}
 use Rattle.box_specs.proofs.Cuts.{rule_fits}
-use Rattle.box_search.proofs.Trees.{IsSound, IsTree, corner_within, part_root, single_is, sound_of}
+use Rattle.box_search.proofs.Trees.{IsSound, IsSoundTree, corner_within, part_root, single_is, sound_of}
 
--- a line that ends a tree
+-- a line that does not split its box
 abbrev pub is_end : CertLine → Bool
 is_end (Split dye mid) = false
 is_end (Limit k) = true
@@ -65,7 +65,7 @@ module _ (l : Land) where
     go None None true unsure e = refl
     go None None false g e = absurd (false≢true e)
 
-  -- the lines that single boxes have
+  -- a box of one recipe that no limit excludes and on which no light fails
   pub record IsPoint (b : Span) : Type 0 where
     pub alone : is_single b ≡ true
     pub admitted : is_admitted l b.lo ≡ true
@@ -85,7 +85,7 @@ module _ (l : Land) where
     go None None true fails e f i j h = absurd (false≢true h)
     go None None true unsure e f i j h = absurd (false≢true h)
 
-  -- a failing recipe is never undecided
+  -- the recipe of such a box inside the whole does not have the grade `fails`
   never : (b : Span) → IsLawful l → IsSound l b → IsPoint b → l.grade b.lo ≡ fails → ⊥
   never b lawful s p g =
       let within = corner_within l b l.top s.box s.inside in
@@ -107,7 +107,7 @@ module _ (l : Land) where
   none_is None h = refl
   none_is (Some n) h = absurd (false≢true h)
 
-  -- the line of a single box that no limit excludes and on which no light fails
+  -- where the recipe of such a box has the grade `passes`, the line of the box passes
   pub point_line : (b : Span) → IsPoint b → l.grade b.lo ≡ passes → is_pass_line (line_of l b) ≡ true
   point_line b p g =
       let limit = none_is (limit_of l b) (sym (ap (λ c. is_none (limit_of l c)) (single_is b p.alone)) ∙ p.admitted) in
@@ -124,7 +124,8 @@ module _ (l : Land) where
     go rest false e f = rest f
 
   module _ (lawful : IsLawful l) (claim : Claim) (listed : List (List ℕ)) where
-    -- a line holds where its recipe is listed if it is an undecided one
+    -- the check of a line finds no fault, provided that its recipe is listed where the line is
+    -- undecided
     abbrev HoldsAt : Span → CertLine → Type 0
     HoldsAt b x = (is_undecided_line x ≡ true → is_listed listed b.lo ≡ true) → line_fault l claim listed b x ≡ None
 
@@ -146,7 +147,8 @@ module _ (l : Land) where
           let there = u refl in
           λ k. unless (i k) NotPoint (unless (open_ k) NotUndecided (unless (there k) WrongList None))
 
--- what every tree of lines keeps, if each of its lines does
+-- Induction over the lines of a tree, the last line first: a property of the lines so far holds of
+-- all lines where it goes on to hold as each line is put before them
 module _ (l : Land) (judged : ℕ → Span → Bool) where
   abbrev pub own : ℕ → Span → CertLine
   own d b = if judged d b then line_of l b else Dear
@@ -157,13 +159,13 @@ module _ (l : Land) (judged : ℕ → Span → Bool) where
     go true = leaf_line l b h
     go false = refl
 
-  fork_after : (b : Span) (s t : Tree) (bs : List Span) → IsTree l (fork b s t) → after b bs (line_of l b) ≡ root s ∷ root t ∷ bs
+  fork_after : (b : Span) (s t : Tree) (bs : List Span) → IsSoundTree l (fork b s t) → after b bs (line_of l b) ≡ root s ∷ root t ∷ bs
   fork_after b s t bs i =
       ap (after b bs) (open_line l b i.1) ∙ split_after b bs (cut_of b) ∙ (λ k. sym i.2 k ∷ sym i.3 k ∷ bs)
 
   module _ (W : List Span → List CertLine → Type 0) (t0 : Tree) (k0 : ℕ)
-      (step : (d : ℕ) (u : Tree) → IsPart l t0 k0 d u → IsTree l u → (bs : List Span) (xs : List CertLine) → W (after (root u) bs (own d (root u))) xs → W (root u ∷ bs) (own d (root u) ∷ xs)) where
-    pub each_line : (t : Tree) (k : ℕ) → IsTree l t → ((d : ℕ) (u : Tree) → IsPart l t k d u → IsPart l t0 k0 d u) → (bs : List Span) (xs : List CertLine) → W bs xs
+      (step : (d : ℕ) (u : Tree) → IsPart l t0 k0 d u → IsSoundTree l u → (bs : List Span) (xs : List CertLine) → W (after (root u) bs (own d (root u))) xs → W (root u ∷ bs) (own d (root u) ∷ xs)) where
+    pub each_line : (t : Tree) (k : ℕ) → IsSoundTree l t → ((d : ℕ) (u : Tree) → IsPart l t k d u → IsPart l t0 k0 d u) → (bs : List Span) (xs : List CertLine) → W bs xs
         → W (root t ∷ bs) (lines l judged k t ++ xs)
     each_line (leaf b) k i h bs xs w =
         step k (leaf b) (h k (leaf b) (part_root l (leaf b) k)) i bs xs (subst (λ cs. W cs xs) (sym (end_after b bs (own k b) (own_end k b i.1))) w)
@@ -185,8 +187,7 @@ module _ (l : Land) (judged : ℕ → Span → Bool) where
               let at : W (after b bs (own k b)) ((lines l judged (k + 1) s ++ lines l judged (k + 1) t) ++ xs) = subst (λ cs. W cs ((lines l judged (k + 1) s ++ lines l judged (k + 1) t) ++ xs)) (sym (ap (after b bs) o ∙ fork_after b s t bs i)) rest in
               subst (λ x. W (b ∷ bs) (x ∷ ((lines l judged (k + 1) s ++ lines l judged (k + 1) t) ++ xs))) o (step k (fork b s t) here i bs ((lines l judged (k + 1) s ++ lines l judged (k + 1) t) ++ xs) at)
 
-  -- the lines are one tree
-  trees_step : (d : ℕ) (u : Tree) → IsTree l u → (bs : List Span) (xs : List CertLine)
+  trees_step : (d : ℕ) (u : Tree) → IsSoundTree l u → (bs : List Span) (xs : List CertLine)
       → are_trees (length (after (root u) bs (own d (root u)))) xs ≡ true → are_trees (suc (length bs)) (own d (root u) ∷ xs) ≡ true
   trees_step d u i bs xs w = go (judged d (root u)) (is_final l (root u)) refl w where
     ended : (x : CertLine) → is_end x ≡ true → are_trees (length (after (root u) bs x)) xs ≡ true → are_trees (suc (length bs)) (x ∷ xs) ≡ true
@@ -205,16 +206,18 @@ module _ (l : Land) (judged : ℕ → Span → Bool) where
         let G : CertLine → Type 0 = λ x. are_trees (length (after (root u) bs x)) xs ≡ true in
         subst F (sym at) (split_one (cut_of (root u)) (subst G at v))
 
-  pub one_tree : (t : Tree) (k : ℕ) → IsTree l t → (bs : List Span) (xs : List CertLine) → are_trees (length bs) xs ≡ true → are_trees (suc (length bs)) (lines l judged k t ++ xs) ≡ true
+  -- the lines of a tree spell exactly one tree
+  pub one_tree : (t : Tree) (k : ℕ) → IsSoundTree l t → (bs : List Span) (xs : List CertLine) → are_trees (length bs) xs ≡ true → are_trees (suc (length bs)) (lines l judged k t ++ xs) ≡ true
   one_tree t k i bs xs w =
       each_line (λ cs ys. are_trees (length cs) ys ≡ true) t k (λ d u p j cs ys v. trees_step d u j cs ys v) t k i (λ d u p. p) bs xs w
 
-  -- the corners of the lines that pass a test are those of judged parts
-  pub corners_are : (P : List ℕ → Type 0) (test : CertLine → Bool) → test Dear ≡ false → (t : Tree) (k : ℕ) → IsTree l t
+  -- what holds of the lower corner of each judged part whose line passes a test holds of all
+  -- corners of such lines
+  pub corners_are : (P : List ℕ → Type 0) (test : CertLine → Bool) → test Dear ≡ false → (t : Tree) (k : ℕ) → IsSoundTree l t
       → ((d : ℕ) (u : Tree) → IsPart l t k d u → judged d (root u) ≡ true → test (line_of l (root u)) ≡ true → P (root u).lo)
       → (bs : List Span) (xs : List CertLine) → AllByRecursion P (corners test bs xs) → AllByRecursion P (corners test (root t ∷ bs) (lines l judged k t ++ xs))
   corners_are P test dear t k i h bs xs w = each_line (λ cs ys. AllByRecursion P (corners test cs ys)) t k step t k i (λ d u p. p) bs xs w where
-    step : (d : ℕ) (u : Tree) → IsPart l t k d u → IsTree l u → (cs : List Span) (ys : List CertLine)
+    step : (d : ℕ) (u : Tree) → IsPart l t k d u → IsSoundTree l u → (cs : List Span) (ys : List CertLine)
         → AllByRecursion P (corners test (after (root u) cs (own d (root u))) ys) → AllByRecursion P (corners test (root u ∷ cs) (own d (root u) ∷ ys))
     step d u p j cs ys v = go (test (own d (root u))) refl where
       known : (b : Bool) → judged d (root u) ≡ b → test (if b then line_of l (root u) else Dear) ≡ true → P (root u).lo
@@ -226,7 +229,7 @@ module _ (l : Land) (judged : ℕ → Span → Bool) where
       go true e = (known (judged d (root u)) refl e, v)
       go false e = v
 
-  -- one more line keeps what is listed
+  -- a recipe among the corners stays among them when a line is put before the others
   more : (test : CertLine → Bool) (r : List ℕ) (b : Span) (bs : List Span) (x : CertLine) (xs : List CertLine)
       → is_listed (corners test (after b bs x) xs) r ≡ true → is_listed (corners test (b ∷ bs) (x ∷ xs)) r ≡ true
   more test r b bs x xs h = go (test x) where
@@ -240,10 +243,10 @@ module _ (l : Land) (judged : ℕ → Span → Bool) where
     go true e = or_left (same_steps b.lo b.lo) (is_listed (corners test (after b bs x) xs) b.lo) ((bytes_eq-Decides b.lo b.lo).1 refl)
     go false e = absurd (false≢true e)
 
-  -- the recipe of a judged part whose line passes the test is among them
+  -- where a part and all above it are judged, and its line passes the test, its corner is listed
   module _ (test : CertLine → Bool) (e : ℕ) (v : Tree) (now : judged e (root v) ≡ true) (tests : test (line_of l (root v)) ≡ true) where
-    pub mark : (t : Tree) (k : ℕ) → IsTree l t → IsPart l t k e v
-        → ((d : ℕ) (u : Tree) → IsTree l u → IsPart l u d e v → judged d (root u) ≡ true)
+    pub mark : (t : Tree) (k : ℕ) → IsSoundTree l t → IsPart l t k e v
+        → ((d : ℕ) (u : Tree) → IsSoundTree l u → IsPart l u d e v → judged d (root u) ≡ true)
         → (bs : List Span) (xs : List CertLine) → is_listed (corners test (root t ∷ bs) (lines l judged k t ++ xs)) (root v).lo ≡ true
     mark (leaf b) k i p above bs xs =
         let at : judged k b ≡ true = above k (leaf b) i p in
@@ -276,12 +279,13 @@ module _ (l : Land) (judged : ℕ → Span → Bool) where
           go low upper true g (inr (inl q)) = down (low q)
           go low upper true g (inr (inr q)) = down (high (upper q))
 
-  -- each line holds
+  -- the check of the lines finds no fault
   module _ (lawful : IsLawful l) (claim : Claim) (listed : List (List ℕ)) where
     abbrev Walks : List Span → List CertLine → Type 0
     Walks bs xs = AllByRecursion (λ r. is_listed listed r ≡ true) (corners is_undecided_line bs xs) → (n : ℕ) → line_failure l claim listed n bs xs ≡ None
 
-    -- what the claim says of a part
+    -- what the claim demands of a part: that it is too dear if it was not judged, and is the
+    -- claimed recipe if it passes
     pub record Fits (d : ℕ) (b : Span) : Type 0 where
       pub dear : judged d b ≡ false → is_dear l claim listed claim b ≡ true
       pub passed : judged d b ≡ true → is_pass_line (line_of l b) ≡ true → is_claimed claim b.lo ≡ true
@@ -298,10 +302,10 @@ module _ (l : Land) (judged : ℕ → Span → Bool) where
       go true e v = on (λ _. v.0) v.1
       go false e v = on (λ f. absurd (false≢true (sym e ∙ f))) v
 
-    pub walks : (t : Tree) (k : ℕ) → IsTree l t → ((d : ℕ) (u : Tree) → IsPart l t k d u → Fits d (root u)) → (bs : List Span) (xs : List CertLine) → Walks bs xs
+    pub walks : (t : Tree) (k : ℕ) → IsSoundTree l t → ((d : ℕ) (u : Tree) → IsPart l t k d u → Fits d (root u)) → (bs : List Span) (xs : List CertLine) → Walks bs xs
         → Walks (root t ∷ bs) (lines l judged k t ++ xs)
     walks t k i h bs xs w = each_line Walks t k step t k i (λ d u p. p) bs xs w where
-      step : (d : ℕ) (u : Tree) → IsPart l t k d u → IsTree l u → (cs : List Span) (ys : List CertLine) → Walks (after (root u) cs (own d (root u))) ys → Walks (root u ∷ cs) (own d (root u) ∷ ys)
+      step : (d : ℕ) (u : Tree) → IsPart l t k d u → IsSoundTree l u → (cs : List Span) (ys : List CertLine) → Walks (after (root u) cs (own d (root u))) ys → Walks (root u ∷ cs) (own d (root u) ∷ ys)
       step d u p j cs ys = walk_on (root u) cs (own d (root u)) ys (holds (judged d (root u)) refl) where
         holds : (c : Bool) → judged d (root u) ≡ c → HoldsAt l lawful claim listed (root u) (if c then line_of l (root u) else Dear)
         holds true e = judged_holds l lawful claim listed (root u) (sound_of l u j) ((h d u p).passed e)

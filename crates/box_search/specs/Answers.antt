@@ -1,4 +1,4 @@
--- What is done with a box once it is judged.
+-- What is done with a box once it is judged, and what a search has found when it ends.
 use Rattle.std.specs.Prelude.{◌≡◌, ◌+◌, ◌*◌, ◌≤◌, ℕ, Bool, true, false, Option, Some, None, List, [], ◌∷◌, ◌++◌, length, if◌then◌else◌}
 use Rattle.box_specs.specs.declared.certificate.CertLine.{CertLine}
 use Rattle.box_specs.specs.declared.certificate.Claim.{Claim}
@@ -11,31 +11,32 @@ use Rattle.box_specs.specs.Tree.{Spot, Tree, root, spot_of, tree_of}
 use Rattle.box_search.specs.Hand.{halves_of}
 use Rattle.box_search.specs.declared.hand.Halves.{Halves}
 
-abbrev pub is_open_answer : Judged → Bool
-is_open_answer (Limit k) = false
-is_open_answer (Fail j) = false
-is_open_answer StillOpen = true
-is_open_answer Pass = false
-is_open_answer Undecided = false
+abbrev pub is_open : Judged → Bool
+is_open (Limit k) = false
+is_open (Fail j) = false
+is_open StillOpen = true
+is_open Pass = false
+is_open Undecided = false
 
-abbrev pub is_undecided_answer : Judged → Bool
-is_undecided_answer (Limit k) = false
-is_undecided_answer (Fail j) = false
-is_undecided_answer StillOpen = false
-is_undecided_answer Pass = false
-is_undecided_answer Undecided = true
+abbrev pub is_undecided : Judged → Bool
+is_undecided (Limit k) = false
+is_undecided (Fail j) = false
+is_undecided StillOpen = false
+is_undecided Pass = false
+is_undecided Undecided = true
 
--- the halves of a box that is open
+-- the halves of a box that is judged open
 abbrev pub halves_by : Land → ℕ → Span → Judged → Option Halves
-halves_by l depth b judged = if is_open_answer judged then Some (halves_of l depth b) else None
+halves_by l depth b judged = if is_open judged then Some (halves_of l depth b) else None
 
--- the undecided recipes afterwards
+-- the undecided recipes once the box is judged
 abbrev pub next_listed : Span → Judged → List (List ℕ) → List (List ℕ)
-next_listed b judged listed = if is_undecided_answer judged then listed ++ b.lo ∷ [] else listed
+next_listed b judged listed = if is_undecided judged then listed ++ b.lo ∷ [] else listed
 
--- what a search has found: all but the tree of the certificate, and for each box of the tree whether it was judged, and its line
+-- what a search has found: with the canonical lines its claim and list are canonical, g has the
+-- lines of exactly the judged boxes, and the listed recipes and the lines are few
 pub record IsFound (l : Land) (budget : ℕ) (claim : Claim) (listed : List (List ℕ)) (boxes : ℕ) (g : Spot → Option CertLine) : Type 0 where
   pub canonical : IsCanonical l budget claim listed (canonical_lines l boxes) boxes
   pub written : (e : ℕ) (v : Tree) → IsPart l (tree_of l) 0 e v → g (spot_of l e (root v)) ≡ (if is_judged l boxes e (root v) then Some (line_of l (root v)) else None)
-  pub short : length listed ≤ boxes
-  pub few : length (canonical_lines l boxes) ≤ 2 * boxes + 1
+  pub few : length listed ≤ boxes
+  pub short : length (canonical_lines l boxes) ≤ 2 * boxes + 1

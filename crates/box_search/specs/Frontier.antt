@@ -14,10 +14,11 @@ abbrev pub is_done : Option Spot → Spot → Bool
 is_done None z = false
 is_done (Some last) z = not (is_lt (spot_cmp last z))
 
--- a map with one more entry
+-- a map with this entry at one place, whatever it had there
 abbrev pub with_entry : {X : Type 0} → Spot → X → (Spot → Option X) → Spot → Option X
 with_entry q x f z = if is_eq (spot_cmp q z) then Some x else f z
 
+-- a map without its entry at one place
 abbrev pub without : {X : Type 0} → Spot → (Spot → Option X) → Spot → Option X
 without q f z = if is_eq (spot_cmp q z) then None else f z
 
@@ -32,7 +33,7 @@ module _ (l : Land) where
     pub box : root part ≡ b
     pub place : z ≡ spot_of l z.depth b
 
-  -- a part stands under one that waits
+  -- a part is one that waits, or stands below one
   pub record IsCovered (f : Spot → Option Span) (e : ℕ) (v : Tree) : Type 0 where
     pub depth : ℕ
     pub above : Tree
@@ -41,7 +42,7 @@ module _ (l : Land) where
     pub waits : f (spot_of l depth (root above)) ≡ Some (root above)
 
   -- the recipe of a judged undecided box
-  pub record IsOpen (last : Option Spot) (r : List ℕ) : Type 0 where
+  pub record IsUndecided (last : Option Spot) (r : List ℕ) : Type 0 where
     pub depth : ℕ
     pub part : Tree
     pub at : IsPart l (tree_of l) 0 depth part
@@ -49,8 +50,10 @@ module _ (l : Land) where
     pub line : is_undecided_line (line_of l (root part)) ≡ true
     pub corner : (root part).lo ≡ r
 
-  -- The boxes that wait, the lines of the judged ones, the last place judged, how many were judged, the undecided
-  -- recipes, and the one that passes, if there is one. Two boxes that wait have no recipe in common
+  -- The invariant of a search: the n boxes at places up to `last` are judged, and g has their
+  -- lines. Each other box waits, or lies below one that waits. Two boxes that wait have no recipe
+  -- in common. The undecided recipes are listed in their order. Where a judged box passes, `won` is
+  -- its recipe
   pub record State (f : Spot → Option Span) (g : Spot → Option CertLine) (last : Option Spot) (n : ℕ) (listed : List (List ℕ)) (won : Option (List ℕ)) : Type 0 where
     pub waits : (z : Spot) (b : Span) → f z ≡ Some b → IsAt z b
     pub later : (z : Spot) (b : Span) → f z ≡ Some b → is_done last z ≡ false
@@ -60,7 +63,7 @@ module _ (l : Land) where
     pub written : (e : ℕ) (v : Tree) → IsPart l (tree_of l) 0 e v → g (spot_of l e (root v)) ≡ (if done_in last e (root v) then Some (line_of l (root v)) else None)
     pub clean : (e : ℕ) (v : Tree) → IsPart l (tree_of l) 0 e v → done_in last e (root v) ≡ true → is_pass_line (line_of l (root v)) ≡ true → won ≡ Some (root v).lo
     pub rising : IsRising l listed
-    pub each : All (IsOpen last) listed
+    pub each : All (IsUndecided last) listed
     pub every : (e : ℕ) (v : Tree) → IsPart l (tree_of l) 0 e v → done_in last e (root v) ≡ true → is_undecided_line (line_of l (root v)) ≡ true → Contains listed (root v).lo
     pub shallow : (z : Spot) (b : Span) → f z ≡ Some b → z.depth ≤ n
     pub short : length listed ≤ n

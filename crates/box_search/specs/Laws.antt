@@ -10,23 +10,23 @@ use Rattle.box_specs.specs.Tree.{need}
 use Rattle.box_specs.specs.Validity.{IsValid}
 use Rattle.box_search.specs.Result.{SearchResult, search_result}
 
--- what a search of any budget ends with is valid
+-- what is canonical for a budget is valid
 abbrev pub CanonicalIsValid : Land → Type 0
 CanonicalIsValid l =
-    IsLawful l → (budget : ℕ) (claim : Claim) (listed : List (List ℕ)) (tree : List CertLine) (boxes : ℕ)
-    → IsCanonical l budget claim listed tree boxes → IsValid l claim listed tree
+    IsLawful l → (budget : ℕ) (claim : Claim) (listed : List (List ℕ)) (lines : List CertLine) (boxes : ℕ)
+    → IsCanonical l budget claim listed lines boxes → IsValid l claim listed lines
 
--- of G recipes at most 2G - 1 boxes are needed, so that a search of that budget never ends at the budget
+-- among G recipes at most 2G - 1 boxes are needed
 abbrev pub NeedIsSmall : Land → Type 0
 NeedIsSmall l = IsBox l.top → need l + 1 ≤ 2 * length (all_recipes l)
 
--- whatever search of a budget ends with is its one result
+-- what is canonical for a budget is `search_result` of that budget
 abbrev pub ResultIsOne : Land → Type 0
 ResultIsOne l =
     IsLawful l → (budget : ℕ) (result : SearchResult)
     → IsCanonical l budget result.claim result.listed result.lines result.boxes → result ≡ search_result l budget
 
--- there is such a result for each budget
+-- for each budget, `search_result` is canonical
 abbrev pub ResultIsCanonical : Land → Type 0
 ResultIsCanonical l =
     IsLawful l → (budget : ℕ)

@@ -6,6 +6,7 @@ use Rattle.arrayvec.specs.ArrayVec.{ArrayVec}
 use Rattle.box_specs.specs.Tree.{Spot, spot_cmp}
 use Rattle.box_search.specs.declared.place.Place.{Place}
 
+-- a place as the code keeps it, and back
 abbrev pub place : Spot → Place
 place z = record { key = record { cost = z.key.cost; steps = record { items = z.key.steps } }; depth = z.depth }
 
@@ -19,6 +20,6 @@ place_cmp a b = spot_cmp (spot a) (spot b)
 abbrev pub at : {X : Type 0} → BTreeMap Place X → Spot → Option X
 at m z = get place_cmp m (place z)
 
--- recipes as lists of steps
+-- recipes of the code as lists
 abbrev pub lists : List (ArrayVec ℕ) → List (List ℕ)
 lists recipes = map (λ steps. steps.items) recipes

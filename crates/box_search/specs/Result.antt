@@ -19,11 +19,11 @@ pub record SearchResult : Type 0 where
   pub lines : List CertLine
   pub boxes : ℕ
 
--- what an outcome of the code says
+-- an outcome of the code as such a result
 abbrev pub outcome_view : Outcome → SearchResult
 outcome_view o = record { claim = o.cert.claim; listed = o.cert.undecided; lines = o.cert.lines; boxes = o.boxes }
 
--- the first box of a tree that passes a test on its depth and itself
+-- the first box of a tree, parents before halves and the lower half first, for which a test holds
 abbrev pub first_box : (ℕ → Span → Bool) → ℕ → Tree → Option Span
 first_box test depth (leaf b) = if test depth b then Some b else None
 first_box test depth (fork b lower upper) =
@@ -35,20 +35,21 @@ answer_claim None = NoMatch
 answer_claim (Some steps) = Match (record { items = steps })
 
 module _ (l : Land) where
-  -- the cost of the lower corner of a box
+  -- the cost of the lower corner of a box, 0 for none
   abbrev pub corner_cost : Option Span → ℕ
   corner_cost None = 0
   corner_cost (Some b) = l.cost b.lo
 
-  -- the cost of the one box before which so many stand
+  -- the cost of the lower corner of the box that has exactly this many boxes before it
   abbrev pub floor_at : ℕ → ℕ
   floor_at boxes = corner_cost (first_box (λ depth b. rank l (spot_of l depth b) == boxes) 0 (tree_of l))
 
-  -- the answer where the budget suffices, and else the cost of the first box that was not judged
+  -- the claim of the answer where the budget suffices, and else a floor: the cost of the lower
+  -- corner of the first box, by place, that is not judged
   abbrev pub claim_at : ℕ → Claim
   claim_at budget = if nat_le (need l) budget then answer_claim (answer_of l) else Floor (floor_at budget)
 
-  -- a recipe put among recipes in their order, unless it is one of them
+  -- a rising list with one more recipe, in its order; unchanged where it already has that recipe
   abbrev pub put_in : List ℕ → List (List ℕ) → List (List ℕ)
   put_in steps [] = steps ∷ []
   put_in steps (next ∷ rest) =
@@ -61,7 +62,7 @@ module _ (l : Land) where
   in_order [] = []
   in_order (steps ∷ rest) = put_in steps (in_order rest)
 
-  -- the recipes of the undecided lines
+  -- the recipes of the undecided lines, in their order and each of them once
   abbrev pub undecided_of : List CertLine → List (List ℕ)
   undecided_of lines = in_order (corners is_undecided_line (l.top ∷ []) lines)
 
@@ -69,6 +70,7 @@ module _ (l : Land) where
   result_of claim boxes =
       record { claim = claim; listed = undecided_of (canonical_lines l boxes); lines = canonical_lines l boxes; boxes = boxes }
 
-  -- the boxes that are needed are judged, or as many as the budget allows
+  -- the one result of a search: the boxes that are needed are judged, or as many as the budget
+  -- allows
   unfoldable pub search_result : ℕ → SearchResult
   search_result budget = result_of (claim_at budget) (min (need l) budget)

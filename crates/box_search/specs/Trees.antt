@@ -8,21 +8,22 @@ use Rattle.box_specs.specs.Span.{IsBox, IsInside, Span}
 use Rattle.box_specs.specs.Splits.{cut_of, lower_half, upper_half}
 use Rattle.box_specs.specs.Tree.{Spot, Tree, fork, leaf, root, spot_of}
 
--- what is known of each part: it is a box inside the whole
+-- a box, inside the box of all recipes
 pub record IsSound (l : Land) (b : Span) : Type 0 where
   pub box : IsBox b
   pub inside : IsInside b l.top
 
 module _ (l : Land) where
-  -- a tree: its leaves are final, and below a fork stand the halves of its box
-  abbrev pub IsTree : Tree → Type 0
-  IsTree (leaf b) = IsSound l b × (is_final l b ≡ true)
-  IsTree (fork b lower upper) =
-      IsSound l b × (is_final l b ≡ false) × (root lower ≡ lower_half b (cut_of b)) × (root upper ≡ upper_half b (cut_of b)) × IsTree lower × IsTree upper
+  -- a tree of sound boxes: the leaves are final, the forks are not, and below a fork stand the
+  -- halves of its box
+  abbrev pub IsSoundTree : Tree → Type 0
+  IsSoundTree (leaf b) = IsSound l b × (is_final l b ≡ true)
+  IsSoundTree (fork b lower upper) =
+      IsSound l b × (is_final l b ≡ false) × (root lower ≡ lower_half b (cut_of b)) × (root upper ≡ upper_half b (cut_of b)) × IsSoundTree lower × IsSoundTree upper
 
-  -- what is kept of each box of a tree: the line of a judged one, and nothing of another
-  abbrev pub Knows : (Spot → Option CertLine) → (ℕ → Span → Bool) → ℕ → Tree → Type 0
-  Knows g judged depth t =
+  -- g has the line of each judged box of a tree, and nothing of another
+  abbrev pub HasLines : (Spot → Option CertLine) → (ℕ → Span → Bool) → ℕ → Tree → Type 0
+  HasLines g judged depth t =
       (d : ℕ) (u : Tree) → IsPart l t depth d u → g (spot_of l d (root u)) ≡ (if judged d (root u) then Some (line_of l (root u)) else None)
 
 -- the line of a box: too dear where nothing is kept of it

@@ -5,14 +5,14 @@ ghost use Rattle.box_specs.specs.Canonical.{lines};
 ghost use Rattle.box_specs.specs.Span.{IsBox, IsInside, Span};
 ghost use Rattle.box_specs.specs.Tree.{Tree, root, spot_of};
 ghost use Rattle.box_search.specs.Places.{at};
-ghost use Rattle.box_search.specs.Trees.{IsTree, Knows, is_split_line, kept_line};
+ghost use Rattle.box_search.specs.Trees.{HasLines, IsSoundTree, is_split_line, kept_line};
 
 use crate::place::{Place, place_of};
 use box_core::{BoxR, CertLine, Landscape, split};
 use std::alloc::AllocError;
 use std::collections::BTreeMap;
 
-/// What is kept of a box: its line, where it was judged.
+/// The line kept of a box, or `Dear` where none is kept.
 fn line_at<L: Landscape>(
     land: &L,
     done: &BTreeMap<Place, CertLine>,
@@ -39,7 +39,8 @@ fn is_split(line: CertLine) -> bool
     }
 }
 
-/// Adds the lines of the tree of a box.
+/// Appends the line of a box to `out`, and after a split the lines of its lower half and then those
+/// of its upper half.
 pub(crate) fn emit<L: Landscape>(
     land: &L,
     done: &BTreeMap<Place, CertLine>,
@@ -51,8 +52,8 @@ pub(crate) fn emit<L: Landscape>(
     requires inside { IsInside part.now (L.land land.now).top }
     requires depth { depth ≤ length out.old.items }
     ensures lines { OnOk result ((judged : ℕ → Span → Bool) (t : Tree)
-        → IsTree (L.land land.now) t → root t ≡ part.now
-        → Knows (L.land land.now) (at done.now) judged depth t
+        → IsSoundTree (L.land land.now) t → root t ≡ part.now
+        → HasLines (L.land land.now) (at done.now) judged depth t
         → out.new.items ≡ out.old.items ++ lines (L.land land.now) judged depth t) }
     ensures longer { OnOk result (length out.old.items ≤ length out.new.items) }
 {

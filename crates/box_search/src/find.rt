@@ -13,8 +13,8 @@ use price_grid::{Steps, copy_of};
 use std::alloc::{AllocError, Global};
 use std::collections::BTreeMap;
 
-/// What a search has found: all of its certificate but the tree, and the lines of the boxes that
-/// were judged.
+/// What a search has found: the claim, how many boxes were judged, the undecided recipes, and the
+/// lines of the judged boxes.
 #[derive(Drop)]
 pub(crate) struct Found {
     pub claim: Claim,
@@ -33,8 +33,9 @@ fn is_pass(line: CertLine) -> bool
     }
 }
 
-/// Judges boxes in their order until a recipe passes, no box is left, or the budget is spent. The
-/// lower half of a box that is split is the next one, and stays in hand; the map has the others.
+/// Judges boxes in the order of their places until a recipe passes, no box is left, or the budget
+/// is spent. The lower half of a box that is split is judged next, so it is kept in hand; the map
+/// has the other boxes that wait.
 pub(crate) fn find<L: Landscape>(
     alloc: Global,
     land: &L,

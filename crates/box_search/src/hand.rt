@@ -17,10 +17,10 @@ pub(crate) struct Halves {
     pub upper: (Place, BoxR),
 }
 
-/// Puts the upper half into the map, and the lower one in hand: it has the corner of the box that
-/// was split, so no other box that waits stands before it. Where there is no memory, the map stays
-/// as it was.
-pub(crate) fn keep(
+/// Adds the upper half to the map, and returns the lower one. The box that was split was the first
+/// that waited, and the lower half has its lower corner, so it is the next. Without halves the map
+/// is unchanged, as it is where there is no memory.
+pub(crate) fn add_upper(
     waiting: &mut BTreeMap<Place, BoxR>,
     halves: Option<Halves>,
 ) -> Result<Option<(Place, BoxR)>, AllocError>

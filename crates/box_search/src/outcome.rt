@@ -17,8 +17,9 @@ pub struct Outcome {
     pub boxes: u32,
 }
 
-/// Looks for the first recipe, by cost and then by steps, that is admitted and passes. Boxes are
-/// judged in the order of their places, up to the budget. The certificate shows what was found.
+/// Looks for the first recipe, by cost and then by steps, that is admitted and passes. At most
+/// `budget` boxes are judged, in the order of cost and then steps of their lower corners, and of
+/// two boxes with one lower corner the larger first.
 pub fn search<L: Landscape>(
     alloc: Global,
     land: &L,

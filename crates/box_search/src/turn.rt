@@ -13,18 +13,18 @@ ghost use Rattle.box_search.specs.Frontier.{with_entry};
 ghost use Rattle.box_search.specs.Hand.{halves_of, lower_of, with_upper};
 ghost use Rattle.box_search.specs.Places.{at, lists, spot};
 
-use crate::hand::{Halves, keep};
+use crate::hand::{Halves, add_upper};
 use crate::place::{Place, place_of};
 use box_core::{BoxR, CertLine, Judged, Landscape, split};
 use price_grid::{Steps, copy_of};
 use std::alloc::AllocError;
 use std::collections::BTreeMap;
 
-/// Splits a box.
-fn open<L: Landscape>(land: &L, part: &BoxR, depth: u64) -> (CertLine, Halves)
+/// The split line of a box of several recipes, and its halves at their places.
+fn split_open<L: Landscape>(land: &L, part: &BoxR, depth: u64) -> (CertLine, Halves)
     requires boxed { IsBox part.now }
     requires inside { IsInside part.now (L.land land.now).top }
-    requires open { is_single part.now ≡ false }
+    requires several { is_single part.now ≡ false }
     requires depth { depth < 2 ^ 32 }
     ensures line { result.0 ≡ line_by StillOpen (cut_of part.now) }
     ensures halves { result.1 ≡ halves_of (L.land land.now) depth part.now }
@@ -34,18 +34,18 @@ fn open<L: Landscape>(land: &L, part: &BoxR, depth: u64) -> (CertLine, Halves)
         dye: cut.dye,
         mid: cut.mid,
     };
-    let low = place_of(land, &cut.left, depth + 1);
-    let high = place_of(land, &cut.right, depth + 1);
+    let lower_place = place_of(land, &cut.left, depth + 1);
+    let upper_place = place_of(land, &cut.right, depth + 1);
     let halves = Halves {
-        lower: (low, cut.left),
-        upper: (high, cut.right),
+        lower: (lower_place, cut.left),
+        upper: (upper_place, cut.right),
     };
     (line, halves)
 }
 
 /// The line of a box that was judged, and the halves of an open one. An undecided recipe is
 /// listed.
-fn answer<L: Landscape>(
+fn record_judgement<L: Landscape>(
     land: &L,
     undecided: &mut Vec<Steps>,
     part: &BoxR,
@@ -66,7 +66,7 @@ fn answer<L: Landscape>(
         Judged::Limit(k) => Ok((CertLine::Limit(k), None)),
         Judged::Fail(j) => Ok((CertLine::Fail(j), None)),
         Judged::StillOpen => {
-            let (line, halves) = open(land, part, depth);
+            let (line, halves) = split_open(land, part, depth);
             Ok((line, Some(halves)))
         }
         Judged::Pass => Ok((CertLine::Pass, None)),
@@ -77,8 +77,9 @@ fn answer<L: Landscape>(
     }
 }
 
-/// Judges a box, and keeps its line. The halves of an open one wait: the upper one in the map, and
-/// the lower one in hand. Where there is no memory, the map stays as it was.
+/// Judges a box, and adds its line to `done`. Of an open one the upper half is added to `waiting`,
+/// and the lower one is returned. Where there is no memory, `waiting` is unchanged, but the line or
+/// the undecided recipe may have been added.
 pub(crate) fn turn<L: Landscape>(
     land: &L,
     waiting: &mut BTreeMap<Place, BoxR>,
@@ -109,8 +110,8 @@ pub(crate) fn turn<L: Landscape>(
         (L.judged_count land.now meter.old) (L.judged_count land.now meter.new) }
 {
     let judged = land.judge(part, meter);
-    let (line, halves) = answer(land, undecided, part, place.depth, judged)?;
+    let (line, halves) = record_judgement(land, undecided, part, place.depth, judged)?;
     done.insert(place, line)?;
-    let lower = keep(waiting, halves)?;
+    let lower = add_upper(waiting, halves)?;
     Ok((line, lower))
 }

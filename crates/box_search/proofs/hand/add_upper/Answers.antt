@@ -3,7 +3,7 @@ use Rattle.box_specs.specs.Tree.{Spot}
 use Rattle.box_search.specs.Hand.{with_upper}
 use Rattle.box_search.specs.Places.{at, spot}
 use Rattle.box_search.proofs.Turning.{entry_at}
-use Rattle.box_search.proofs.hand.keep.Goals as goal
+use Rattle.box_search.proofs.hand.add_upper.Goals as goal
 
 pub returns-clause-waits : goal.returns-clause-waits
 returns-clause-waits c =
