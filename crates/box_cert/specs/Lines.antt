@@ -7,7 +7,7 @@ use Rattle.box_cert.specs.Numbers.{number_of}
 abbrev pub is_mark : ℕ → ℕ → Bool
 is_mark mark b = b == mark
 
--- the bytes before the first mark, and those after it
+-- the bytes before the first byte `mark`, and those after it; none where there is no such byte
 abbrev pub cut_at : ℕ → List ℕ → Option (List ℕ × List ℕ)
 cut_at mark [] = None
 cut_at mark (b ∷ bs) = if b == mark then Some ([], bs) else option_map (λ r. (b ∷ r.0, r.1)) (cut_at mark bs)

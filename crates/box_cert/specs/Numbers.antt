@@ -1,9 +1,9 @@
--- Numbers in a certificate: decimal digits with no leading 0.
+-- Numbers in a certificate: decimal digits with no 0 in front of another.
 use Rattle.std.specs.Prelude.{◌==◌, ◌&&◌, ℕ, Bool, true, false, not, nat_le, if◌then◌else◌, List, [], ◌∷◌, Option, Some, None}
 use Rattle.std.specs.List.{list_all}
 use Rattle.dec_text.specs.Decimal.{digits_from, is_digit}
 
--- at least one byte, and no leading 0
+-- at least one byte, and no 0 in front of another byte
 abbrev pub is_plain : List ℕ → Bool
 is_plain [] = false
 is_plain (d ∷ []) = true

@@ -16,11 +16,12 @@ use Rattle.box_cert.specs.Lines.{cut_at, line_of, recipe_of}
 use Rattle.box_cert.specs.Numbers.{number_of}
 use Rattle.box_cert.specs.Spelling.{Content}
 
--- what a function returned, mapped by view, is what the definition reads, unless memory ran out
+-- a call that failed agrees with what the definition reads: the same fault, or memory ran out
 abbrev pub FailsAs : {Y : Type 0} → CertError → Result Y CertFault → Type 0
 FailsAs errors.Memory read = Unit {0}
 FailsAs (errors.Fault f) read = read ≡ Err f
 
+-- the result of a call, mapped by view, is what the definition reads, unless memory ran out
 abbrev pub Gives : {X Y : Type 0} → (X → Y) → Result X CertError → Result Y CertFault → Type 0
 Gives view (Ok x) read = read ≡ Ok (view x)
 Gives view (Err e) read = FailsAs e read
@@ -30,7 +31,8 @@ abbrev pub ◌>>=◌ : {A B : Type 0} → Result A CertFault → (A → Result B
 (Ok x) >>= f = f x
 (Err e) >>= f = Err e
 
--- the rest of a text while it is read: the number of the next line, the lines to come, and the bytes after the last line feed
+-- the rest of a text while it is read: the number of the next line, the lines to come, and the
+-- bytes after the last line feed
 pub record Cursor : Type 0 where
   pub number : ℕ
   pub lines : List (List ℕ)
@@ -72,13 +74,14 @@ next_of rule kind p = next_line p >>= λ r. line_result p.number rule (kind r.0)
 abbrev pub header_of : List ℕ → Option (Unit {0})
 header_of line = if bytes_eq line (codes "dye-cert 1") then Some tt else None
 
--- the second line
+-- the claim of a line, which is given whole and cut at its first space, if it has one
 abbrev pub claim_in : ℕ → List ℕ → Option (List ℕ × List ℕ) → Option Claim
 claim_in dims line None = if bytes_eq line (codes "none") then Some NoMatch else None
 claim_in dims line (Some r) =
     if bytes_eq r.0 (codes "match") then option_map (λ ns. Match (record { items = ns })) (recipe_of dims r.1)
     else (if bytes_eq r.0 (codes "floor") then option_map (λ cost. Floor cost) (number_of 0 (10 ^ 15) r.1) else None)
 
+-- the second line
 abbrev pub claim_of : ℕ → List ℕ → Option Claim
 claim_of dims line = claim_in dims line (cut_at 32 line)
 
@@ -88,7 +91,7 @@ HasDims dims (Match recipe) = length recipe.items ≡ dims
 HasDims dims NoMatch = Unit {0}
 HasDims dims (Floor cost) = Unit {0}
 
--- the third line: how many recipes are listed
+-- how many recipes are listed, from a line cut at its first space
 abbrev pub count_in : Option (List ℕ × List ℕ) → Option ℕ
 count_in None = None
 count_in (Some r) = if bytes_eq r.0 (codes "undecided") then number_of 0 1000000 r.1 else None

@@ -1,4 +1,5 @@
--- Writing a file in pieces: each piece is put after the waiting bytes, and these are appended to the file now and then.
+-- Writing a file in pieces: each piece is put after the waiting bytes, and these are appended to
+-- the file now and then.
 use Rattle.std.specs.Prelude.{◌≡◌, ◌+◌, ◌⊎◌, ℕ, List, ◌++◌, length, Option, option_map, Result, Ok, Err, IsSome, IsOk, IsTrue, is_err, true}
 use Rattle.std.specs.Option.{ForSome}
 use Rattle.shelf_io.specs.Changes.{OnlyWrites}

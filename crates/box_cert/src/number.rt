@@ -13,7 +13,7 @@ use itoa::Buffer;
 /// The cap on a number that is read: every greater one is read as this.
 const STOP: u64 = 1_000_000_000_000_001;
 
-/// Whether there is at least one byte, and no leading 0.
+/// Whether there is at least one byte, and no 0 in front of another byte.
 fn is_plain(word: &[u8]) -> bool
     ensures { result ≡ is_plain word.now }
 {
@@ -41,7 +41,8 @@ fn capped(word: &[u8]) -> u64
     number
 }
 
-/// The number that a word spells in digits with no leading 0, where it is `least` to `most`.
+/// The number that a word spells in digits, with no 0 in front of another, where it is `least` to
+/// `most`.
 #[tactic(auto, unfolding(crate::specs::Numbers::number_of))]
 pub(crate) fn number(word: &[u8], least: u64, most: u64) -> Option<u64>
     requires { most ≤ 10 ^ 15 }
@@ -59,7 +60,7 @@ pub(crate) fn number(word: &[u8], least: u64, most: u64) -> Option<u64>
     }
 }
 
-/// The offset of the first mark.
+/// The offset of the first byte `mark`.
 fn first_mark(mark: u8, text: &[u8]) -> Option<usize>
     ensures is { result ≡ position (is_mark mark) text.now }
     ensures in_text { IfSome result (λ at. at < length text.now) }
@@ -67,7 +68,7 @@ fn first_mark(mark: u8, text: &[u8]) -> Option<usize>
     text.iter().position(|b| *b == mark)
 }
 
-/// The bytes before the first mark, and those after it.
+/// The bytes before the first byte `mark`, and those after it; `None` where there is none.
 pub(crate) fn cut_at(mark: u8, text: &[u8]) -> Option<(&[u8], &[u8])>
     ensures { option_map (λ r. (r.0.now, r.1.now)) result ≡ cut_at mark text.now }
 {

@@ -34,7 +34,7 @@ fn is_header(line: &[u8]) -> bool
     line == b"dye-cert 1".as_slice()
 }
 
-/// Reads the first line: the text after it.
+/// Reads the first line, and returns the text after it.
 fn header_line(text: &[u8]) -> Result<&[u8], CertError>
     ensures is { Gives (λ r. (tt, cursor_of 2 r.now)) result
         (next_of BadHeader header_of (cursor_of 1 text.now)) }
@@ -261,7 +261,8 @@ pub fn read_cert(alloc: Global, bytes: &[u8], dims: usize) -> Result<Cert, CertE
     requires short { length bytes.now ≤ 64000000 }
     requires some { 1 ≤ dims }
     requires few { dims ≤ 12 }
-    // The result is the one that the grammar defines: the certificate, or the first fault.
+    // The result is the one that the grammar defines, the certificate or the first fault, unless
+    // memory runs out.
     ensures exact { Gives (λ cert. content cert) result (cert_of dims bytes.now) }
     // What is read is within its ranges, and the text is its spelling.
     ensures fits { IfOk result (λ cert. IsCertFor dims (content cert)) }

@@ -3,13 +3,13 @@
 ghost use Rattle.std.specs.Prelude.{◌≡◌};
 ghost use Rattle.box_core.specs.Meter.{one_more};
 
-/// A meter: how many boxes were judged, and how many of them afresh. A count stays at `u64::MAX`
-/// once it is there.
+/// A meter: how many judgements were made, and how many of them used nothing that was kept of
+/// another box. A count stays at `u64::MAX` once it is there.
 #[derive(Clone, Copy, Debug, Default, PartialEq, Eq)]
 pub struct Evals {
-    /// How many boxes were judged.
+    /// How many judgements were made.
     pub judged: u64,
-    /// How many of them were judged afresh.
+    /// How many of them used nothing that was kept of another box.
     pub fresh: u64,
 }
 

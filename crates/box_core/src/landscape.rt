@@ -23,7 +23,7 @@ pub trait Landscape {
     // the landscape as a definition: all that is known of the recipes
     ghost land: { Self → Land };
 
-    // how many boxes were judged with a meter, and how many of them afresh
+    // how many judgements were made with a meter, and how many of them used nothing kept of another
     ghost judged_count: { Self → Self.Meter → ℕ };
 
     ghost fresh_count: { Self → Self.Meter → ℕ };
@@ -51,11 +51,13 @@ pub trait Landscape {
         requires { IsInside part.now (land self.now).top }
         ensures { result ≡ (land self.now).excluded limit part.now };
 
-    /// How many boxes were judged with a meter. The count stays at `u64::MAX` once it is there.
+    /// How many judgements were made with a meter, one by each call of `fails` or `judge`. The
+    /// count stays at `u64::MAX` once it is there.
     fn judged(&self, meter: &Self::Meter) -> u64
         ensures { result ≡ judged_count self.now meter.now };
 
-    /// How many of them were judged afresh, without anything that was kept of another box.
+    /// How many judgements used nothing that was kept of another box. By the contracts of `fails`
+    /// and `judge` this is each of them.
     fn fresh(&self, meter: &Self::Meter) -> u64
         ensures { result ≡ fresh_count self.now meter.now };
 

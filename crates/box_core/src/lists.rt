@@ -6,7 +6,7 @@ use box_specs::CertLine;
 use price_grid::Steps;
 use std::marker::Model;
 
-/// Recipes in order, which contracts see as lists of numbers of steps.
+/// A list of recipes, in any order. Contracts see each recipe as its numbers of steps.
 #[derive(Debug, Drop)]
 pub struct StepsList {
     list: Vec<Steps>,

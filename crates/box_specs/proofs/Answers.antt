@@ -181,7 +181,8 @@ module _ (l : Land) where
     go h true m = join s rest (first_match l rest) m h
     go h false m = skip s rest (first_match l rest) m h
 
-  -- the answer is the first recipe of the grid that is admitted and passes, and None where there is no such recipe
+  -- the answer is the first recipe of the grid that is admitted and passes, and None where there is
+  -- no such recipe
   pub answer_is : AnswerIsFirst l
   answer_is box = go (answer_of l) (firsts (all_recipes l)) where
     go : (o : Option (List ℕ)) → IsFirstOf l (all_recipes l) o → IsAnswer l o

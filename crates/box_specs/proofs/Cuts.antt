@@ -1,4 +1,5 @@
--- Cuts of boxes: a box can be split where the rule says, its halves are boxes, and each recipe of it lies in one of them.
+-- Cuts of boxes: a box can be split where the rule says, its halves are boxes, and each recipe of
+-- it lies in one of them.
 use Rattle.std.proofs.Common.{◌≡◌, ◌+◌, ◌-◌, ◌/◌, ◌<◌, ◌≤◌, ◌==◌, ◌&&◌, ℕ, zero, suc, List, [], ◌∷◌, Bool, true, false, nat_le, nat_lt, if◌then◌else◌, length, get_or, refl, sym, ap, ◌∙◌, subst, ◌⊎◌, inl, inr, arith}
 use Rattle.std.specs.Prelude.{Option, Some, None, unwrap_or}
 use Rattle.std.specs.List.{AllZip, slice_set}
@@ -111,7 +112,8 @@ module _ (b : Span) (cut : CutAt) (box : IsBox b) (c : Cuts b cut) where
       let high : cut.dye < length b.hi = omega (arith, c.there, same_count b.lo b.hi box) in
       omega (arith, below_set steps b.hi cut.dye cut.mid h.1 high, above_set b.lo steps cut.dye (cut.mid + 1) k.0 c.there)
 
--- a dye of which a box has recipes with none and recipes with some, at an offset from the first dye of the lists
+-- a dye of which a box has recipes with none and recipes with some, at an offset from the first dye
+-- of the lists
 pub record IsOptional (i dye : ℕ) (low high : List ℕ) : Type 0 where
   pub offset : ℕ
   pub dye_is : dye ≡ i + offset
@@ -147,7 +149,8 @@ optional_found i dye (l ∷ low) (m ∷ high) h = go (optional_found (i + 1) dye
         high_is = rest.high_is;
       }
 
--- the widest range is that so far, and no range is wider; or it is the range of another dye, and wider than that so far
+-- the widest range is that so far, and no range is wider; or it is the range of another dye, and
+-- wider than that so far
 pub data IsWidest (best width i : ℕ) (low high : List ℕ) (result : ℕ) : Type 0 where
   same : result ≡ best → AllZip (λ l h. h - l ≤ width) low high → IsWidest best width i low high result
   wider : (offset : ℕ) → result ≡ i + offset → offset < length low → width < get_or high offset 0 - get_or low offset 0 → IsWidest best width i low high result

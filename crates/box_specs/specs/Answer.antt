@@ -1,4 +1,5 @@
--- The answer: the first recipe, by cost and then by steps, that is admitted and passes, found in the plain list of all.
+-- The answer: the first recipe, by cost and then by steps, that is admitted and passes, found in
+-- the plain list of all.
 use Rattle.std.specs.Prelude.{◌≡◌, ◌+◌, ◌-◌, ◌++◌, ◌&&◌, ℕ, zero, suc, Bool, true, false, Option, Some, None, List, [], ◌∷◌, map, if◌then◌else◌}
 use Rattle.box_specs.specs.Span.{IsBox, IsWithin}
 use Rattle.box_specs.specs.Landscape.{Grade, Land, fails, is_admitted, is_before, passes, unsure}
@@ -56,6 +57,7 @@ module _ (l : Land) where
   IsAnswer None = (steps : List ℕ) → IsWithin steps l.top → is_match steps ≡ false
   IsAnswer (Some steps) = IsFirstMatch steps
 
-  -- the answer is the first recipe of the grid that is admitted and passes, and None where there is no such recipe
+  -- the answer is the first recipe of the grid that is admitted and passes, and None where there is
+  -- no such recipe
   abbrev pub AnswerIsFirst : Type 0
   AnswerIsFirst = IsBox l.top → IsAnswer answer_of

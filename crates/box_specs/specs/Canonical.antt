@@ -26,7 +26,8 @@ module _ (l : Land) where
   abbrev pub line_of : Span → CertLine
   line_of b = line_by (judgement l b) (cut_of b)
 
-  -- the lines of a tree: a box that was not judged is too dear, and the boxes below it have no lines
+  -- the lines of a tree: a box that was not judged is too dear, and the boxes below it have no
+  -- lines
   abbrev pub lines : (ℕ → Span → Bool) → ℕ → Tree → List CertLine
   lines judged depth (leaf b) = (if judged depth b then line_of b else line.Dear) ∷ []
   lines judged depth (fork b lower upper) =
@@ -44,8 +45,9 @@ module _ (l : Land) where
   IsPart (leaf b) depth d u = (depth ≡ d) × (leaf b ≡ u)
   IsPart (fork b lower upper) depth d u = ((depth ≡ d) × (fork b lower upper ≡ u)) ⊎ (IsPart lower (depth + 1) d u ⊎ IsPart upper (depth + 1) d u)
 
-  -- the claim: the answer, or that there is none, where the budget suffices; and else the cost of the first box that was not
-  -- judged, which has exactly `budget` boxes before it
+  -- the claim: the answer, or that there is none, where the budget suffices; and else the cost of
+  -- the lower corner of the first box that was not judged, which has exactly `budget` boxes before
+  -- it
   abbrev pub IsClaim : ℕ → Claim → Type 0
   IsClaim budget (Match recipe) = (need l ≤ budget) × (answer_of l ≡ Some recipe.items)
   IsClaim budget NoMatch = (need l ≤ budget) × (answer_of l ≡ None)
@@ -56,8 +58,9 @@ module _ (l : Land) where
   abbrev pub IsRising : List (List ℕ) → Type 0
   IsRising listed = AllPairs (λ a b. is_before l a b ≡ true) listed
 
-  -- What a search of this budget ends with: it judges the boxes that are needed, or as many as the budget allows; the lines are
-  -- those of the tree; and the recipes of its undecided lines are listed in their order
+  -- What a search of this budget ends with: it judges the boxes that are needed, or as many as the
+  -- budget allows; the lines are those of the tree; and the recipes of its undecided lines are
+  -- listed in their order
   pub record IsCanonical (budget : ℕ) (claim : Claim) (listed : List (List ℕ)) (tree : List CertLine) (boxes : ℕ) : Type 0 where
     pub judged : boxes ≡ min (need l) budget
     pub claimed : IsClaim budget claim

@@ -13,8 +13,8 @@ pub data Grade : Type 0 where
   fails : Grade
   unsure : Grade
 
--- The box of all recipes; how many lights there are; the cost of a recipe and its verdict; which limits exclude a box, and
--- which lights fail on it
+-- The box of all recipes; how many lights there are; the cost of a recipe and its verdict; which
+-- limits exclude a box, and which lights fail on it
 pub record Land : Type 0 where
   pub top : Span
   pub lights : ℕ
@@ -56,7 +56,9 @@ module _ (l : Land) where
   abbrev pub is_admitted : List ℕ → Bool
   is_admitted steps = is_none (limit_of (single steps))
 
-  -- the result of judging a box: limits before lights, the lowest number of each, and then the verdict on a single recipe
+  -- the result of judging a box: the lowest limit, else the lowest light, else open where it has
+  -- more than one recipe, else the verdict on its recipe; a fail is then given as undecided, which
+  -- does not occur in a lawful landscape
   abbrev pub judged_by : (limit light : Option ℕ) → Bool → Grade → Judged
   judged_by (Some k) light alone grade = Limit k
   judged_by None (Some j) alone grade = Fail j
@@ -68,8 +70,9 @@ module _ (l : Land) where
   abbrev pub judgement : Span → Judged
   judgement b = judged_by (limit_of b) (light_of b) (is_single b) (l.grade b.lo)
 
-  -- The laws of a landscape. A box that is shut has no admitted recipe that passes or is undecided; a recipe with more steps
-  -- costs no less; and on the box of one admitted recipe some light fails exactly where the verdict is a fail
+  -- The laws of a landscape. A box that is shut has no admitted recipe that passes or is undecided;
+  -- a recipe with more steps costs no less; and on the box of one admitted recipe some light fails
+  -- exactly where the verdict is a fail
   pub record IsLawful : Type 0 where
     pub top : IsBox l.top
     pub dyes : HasDyes l.top

@@ -13,8 +13,9 @@ module _ (l : Land) (listed : List (List ℕ)) where
       (steps : List ℕ) → IsWithin steps l.top → is_admitted l steps ≡ true → P steps
       → (l.grade steps ≡ fails) ⊎ (is_listed listed steps ≡ true)
 
-  -- a match: every admitted recipe before it fails or is listed, and it is admitted and passes; no match: every admitted recipe
-  -- fails or is listed; a floor: every admitted recipe that costs less than it fails or is listed
+  -- a match: every admitted recipe before it fails or is listed, and it is admitted and passes; no
+  -- match: every admitted recipe fails or is listed; a floor: every admitted recipe that costs less
+  -- than it fails or is listed
   abbrev pub MeansClaim : Claim → Type 0
   MeansClaim (Match recipe) =
       SettlesAll (λ steps. is_before l steps recipe.items ≡ true)
@@ -22,7 +23,7 @@ module _ (l : Land) (listed : List (List ℕ)) where
   MeansClaim NoMatch = SettlesAll (λ steps. Unit {0})
   MeansClaim (Floor cost) = SettlesAll (λ steps. l.cost steps < cost)
 
-  -- a listed recipe is one of the grid that is admitted and undecided
+  -- a recipe of the grid that is admitted and undecided, as each listed one must be
   pub record IsUnsure (steps : List ℕ) : Type 0 where
     pub grid : IsWithin steps l.top
     pub admitted : is_admitted l steps ≡ true

@@ -8,7 +8,8 @@ pub record Span : Type 0 where
   pub lo : List ℕ
   pub hi : List ℕ
 
--- the corners have equally many numbers, and each of the lower corner is at most that of the upper one
+-- the corners have equally many numbers, and each of the lower corner is at most that of the upper
+-- one
 abbrev pub IsBox : Span → Type 0
 IsBox b = IsUpTo b.lo b.hi
 

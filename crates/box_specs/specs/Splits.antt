@@ -8,13 +8,15 @@ pub record CutAt : Type 0 where
   pub dye : ℕ
   pub mid : ℕ
 
--- the index of the first dye of which a box has recipes with none and recipes with some; the lists begin at the index i
+-- the index of the first dye of which a box has recipes with none and recipes with some; the lists
+-- begin at the index i
 abbrev pub first_optional : ℕ → (low high : List ℕ) → Option ℕ
 first_optional i [] high = None
 first_optional i (l ∷ low) [] = None
 first_optional i (l ∷ low) (h ∷ high) = if (l == 0) && nat_lt 0 h then Some i else first_optional (i + 1) low high
 
--- the index of the first dye with the widest range: `best` is that so far, with this width, and the lists begin at the index i
+-- the index of the first dye with the widest range: `best` is that so far, with this width, and the
+-- lists begin at the index i
 abbrev pub widest : (best width i : ℕ) → (low high : List ℕ) → ℕ
 widest best width i [] high = best
 widest best width i (l ∷ low) [] = best
@@ -29,8 +31,9 @@ abbrev pub cut_at : Span → Option ℕ → ℕ → CutAt
 cut_at b (Some dye) wide = record { dye = dye; mid = 0 }
 cut_at b None wide = record { dye = wide; mid = middle_of b wide }
 
--- Where a box has recipes with none and recipes with some of a dye, the first such dye is split into none and some. Else the
--- dye with the widest range, the first on a tie, is split in the middle
+-- Where a box has recipes with none and recipes with some of a dye, the first such dye is split
+-- into none and some. Else the dye with the widest range, the first on a tie, is split in the
+-- middle
 abbrev pub cut_of : Span → CutAt
 cut_of b = cut_at b (first_optional 0 b.lo b.hi) (widest 0 0 0 b.lo b.hi)
 
@@ -45,7 +48,8 @@ upper_half b cut = record { lo = slice_set b.lo cut.dye (cut.mid + 1); hi = b.hi
 abbrev pub is_cut : Span → CutAt → Bool
 is_cut b cut = nat_lt cut.dye (length b.lo) && nat_le (slice_index b.lo cut.dye) cut.mid && nat_lt cut.mid (slice_index b.hi cut.dye)
 
--- each recipe of a box lies in one of its halves, and none in both; and the halves have no other recipes
+-- each recipe of a box lies in one of its halves, and none in both; and the halves have no other
+-- recipes
 pub record Partitions (b lower upper : Span) (steps : List ℕ) : Type 0 where
   pub in_one : IsWithin steps b → IsWithin steps lower ⊎ IsWithin steps upper
   pub from_one : IsWithin steps lower ⊎ IsWithin steps upper → IsWithin steps b

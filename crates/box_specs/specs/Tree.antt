@@ -1,4 +1,5 @@
--- The tree of boxes: the box of all recipes is split until every part is shut or has a single recipe.
+-- The tree of boxes: the box of all recipes is split until every part is shut or has a single
+-- recipe.
 use Rattle.std.specs.Prelude.{◌≤◌, ◌*◌, length, ◌+◌, ◌-◌, ℕ, zero, suc, Bool, true, not, Option, Some, None, List, [], ◌∷◌, if◌then◌else◌}
 use Rattle.std.specs.Ordering.{is_lt, nat_cmp, ordering_then}
 use Rattle.std.specs.declared.cmp.Ordering.{Ordering}
@@ -23,7 +24,8 @@ spread [] high = 0
 spread (l ∷ low) [] = 0
 spread (l ∷ low) (h ∷ high) = (h - l) + spread low high
 
--- the position of a box in the order in which boxes are judged: by the key of the lower corner, and then by depth
+-- the position of a box in the order in which boxes are judged: by the key of the lower corner, and
+-- then by depth
 pub record Spot : Type 0 where
   pub key : KeyView
   pub depth : ℕ
@@ -31,7 +33,8 @@ pub record Spot : Type 0 where
 abbrev pub spot_cmp : Spot → Spot → Ordering
 spot_cmp a b = ordering_then (key_cmp a.key b.key) (nat_cmp a.depth b.depth)
 
--- the number of boxes that pass a test on their depth and on the box itself; the root has the given depth
+-- the number of boxes that pass a test on their depth and on the box itself; the root has the given
+-- depth
 abbrev pub count : (ℕ → Span → Bool) → ℕ → Tree → ℕ
 count test depth (leaf b) = if test depth b then 1 else 0
 count test depth (fork b lower upper) = (if test depth b then 1 else 0) + (count test (depth + 1) lower + count test (depth + 1) upper)
@@ -55,7 +58,8 @@ module _ (l : Land) where
   abbrev pub rank : Spot → ℕ
   rank spot = count (λ depth b. is_lt (spot_cmp (spot_of depth b) spot)) 0 tree_of
 
-  -- a box is needed where its key does not come after that of the answer; without an answer all boxes are needed
+  -- a box is needed where its key does not come after that of the answer; without an answer all
+  -- boxes are needed
   abbrev pub is_needed : Option (List ℕ) → Span → Bool
   is_needed None b = true
   is_needed (Some answer) b = not (is_before l answer b.lo)

@@ -12,7 +12,8 @@ use Rattle.box_specs.specs.Landscape.{Grade, Land, fails, is_admitted, is_before
 use Rattle.box_specs.specs.Span.{Span, is_single, same_steps}
 use Rattle.box_specs.specs.Splits.{is_cut, lower_half, upper_half}
 
--- the lines are the given number of whole trees, one after the other: a split replaces a tree by two, and any other line ends one
+-- the lines are the given number of whole trees, one after the other: a split replaces a tree by
+-- two, and any other line ends one
 abbrev pub are_trees : ℕ → List CertLine → Bool
 are_trees zero [] = true
 are_trees (suc trees) [] = false
@@ -56,7 +57,8 @@ abbrev pub splits : Span → ℕ → ℕ → Bool
 splits b zero mid = false
 splits b (suc dye) mid = is_cut b (record { dye = dye; mid = mid })
 
--- the boxes that wait for their lines, once the first of them has its line: the halves of one that is split, and the others
+-- the boxes that wait for their lines, once the first of them has its line: the halves of one that
+-- is split, and the others
 abbrev pub after : Span → List Span → CertLine → List Span
 after b waiting (Split zero mid) = waiting
 after b waiting (Split (suc dye) mid) = lower_half b (record { dye = dye; mid = mid }) ∷ upper_half b (record { dye = dye; mid = mid }) ∷ waiting
@@ -77,7 +79,8 @@ or_next None next = next
 or_next (Some failure) next = Some failure
 
 module _ (l : Land) (claim : Claim) (listed : List (List ℕ)) where
-  -- a box is too dear: its lower corner comes after the recipe of a match, or costs at least the floor
+  -- a box is too dear: its lower corner comes after the recipe of a match, or costs at least the
+  -- floor
   abbrev pub is_dear : Claim → Span → Bool
   is_dear (Match recipe) b = is_before l recipe.items b.lo
   is_dear NoMatch b = false
@@ -145,7 +148,8 @@ module _ (l : Land) where
   is_later None steps = true
   is_later (Some previous) steps = is_before l previous steps
 
-  -- the first listed recipe that is not of the grid, or not after the previous one, or not before that of a match
+  -- the first listed recipe that is not of the grid, or not after the previous one, or not before
+  -- that of a match
   abbrev pub list_failure : Claim → ℕ → Option (List ℕ) → List (List ℕ) → Option (ℕ × Why)
   list_failure claim number previous [] = None
   list_failure claim number previous (steps ∷ rest) =
@@ -164,8 +168,9 @@ module _ (l : Land) where
   unclaimed_failure NoMatch passed = None
   unclaimed_failure (Floor cost) passed = None
 
-  -- The first failure of a certificate: of the claim, of the list, of the lines of the tree, of the list against those lines, and
-  -- of the claim against them. The list begins in line 4, and the tree follows it
+  -- The first failure of a certificate: of the claim, of the list, of the lines of the tree, of the
+  -- list against those lines, and of the claim against them. The list begins in line 4, and the
+  -- tree follows it
   abbrev pub first_failure : Claim → List (List ℕ) → List CertLine → Option (ℕ × Why)
   first_failure claim listed lines =
       or_next (claim_failure claim)

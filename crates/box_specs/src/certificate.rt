@@ -22,11 +22,11 @@ pub enum CertLine {
 /// What a certificate claims of the recipes.
 #[derive(Debug, Drop)]
 pub enum Claim {
-    /// This is the first recipe that passes.
+    /// This is the first admitted recipe that passes.
     Match(Steps),
-    /// No recipe passes.
+    /// No admitted recipe passes.
     NoMatch,
-    /// No recipe that costs less than this passes.
+    /// No admitted recipe that costs less than this passes.
     Floor(u64),
 }
 
@@ -35,7 +35,7 @@ pub enum Claim {
 pub enum CertRule {
     /// The first line is not that of a certificate.
     BadHeader,
-    /// The second line is no claim, or the third does not state the number of listed recipes.
+    /// The second line is no claim, or the third is not `undecided` with a number up to 1,000,000.
     BadClaim,
     /// A line that has to spell a listed recipe, or a line of the tree, does not.
     BadLine,
@@ -65,11 +65,12 @@ pub enum Why {
     NotDear,
     /// The box has more than one recipe.
     NotPoint,
-    /// The recipe is not admitted and undecided.
+    /// The recipe is not both admitted and undecided.
     NotUndecided,
-    /// The recipe is not admitted and passing.
+    /// The recipe is not both admitted and passing.
     NotPassing,
-    /// The listed recipes, the claim and the lines do not agree.
+    /// The recipe of the match or a listed one is not of the grid, or the list does not rise, or
+    /// the list, the claim and the lines do not agree.
     WrongList,
 }
 
@@ -78,6 +79,7 @@ pub enum Why {
 pub enum Checked {
     /// It is valid.
     Accepted,
-    /// It first fails at this line, from 1, and this is why.
+    /// The line that fails, from 1, and why. Where several fail, it is the first in the order of
+    /// the checks: the claim, the list, the tree, and then the list and the claim against the tree.
     Refused { line: u32, why: Why },
 }

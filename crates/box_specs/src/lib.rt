@@ -1,5 +1,5 @@
 //! Boxes of recipes, what a search finds among them, and when a certificate is valid: definitions
-//! over any landscape of recipes, without functions. None of them depends on colours.
+//! over any landscape of recipes, and no code. None of them depends on colours.
 #![tactic(auto)]
 
 mod certificate;

@@ -1,5 +1,5 @@
--- A landscape of one dye, for the tests: recipes with fewer steps than `first` fail, the others pass; two limits exclude
--- those with more steps than `last`.
+-- A landscape of one dye, for the tests: recipes with fewer steps than `first` fail, the others
+-- pass; two limits exclude those with more steps than `last`.
 use Rattle.std.specs.Prelude.{◌==◌, ◌&&◌, ◌||◌, ℕ, nat_lt, [], ◌∷◌, slice_index, if◌then◌else◌}
 use Rattle.box_specs.specs.Landscape.{Land, fails, passes}
 

@@ -79,7 +79,7 @@ fn refuses_a_dear_line(rt: HostRuntime) -> Result<(), Fail> {
     Ok(())
 }
 
-// A box is not split above its upper corner.
+// A split after the most steps of a box is refused: its upper half would be empty.
 #[test]
 fn refuses_an_empty_half(rt: HostRuntime) -> Result<(), Fail> {
     let alloc = rt.alloc();
@@ -92,7 +92,7 @@ fn refuses_an_empty_half(rt: HostRuntime) -> Result<(), Fail> {
     Ok(())
 }
 
-// All lines hold, but no line is that of the listed recipe.
+// All lines hold, but the listed recipe has no undecided line.
 #[test]
 fn refuses_a_listed_recipe(rt: HostRuntime) -> Result<(), Fail> {
     let alloc = rt.alloc();
@@ -105,7 +105,7 @@ fn refuses_a_listed_recipe(rt: HostRuntime) -> Result<(), Fail> {
     Ok(())
 }
 
-// All lines hold, but the recipe of the match has no line: it is excluded.
+// All lines hold, but the recipe of the match has no passing line: its box is excluded.
 #[test]
 fn refuses_a_match(rt: HostRuntime) -> Result<(), Fail> {
     let alloc = rt.alloc();

@@ -1,5 +1,5 @@
-//! A small landscape of recipes that is lawful, and with it the tests of boxes and of the check of
-//! a certificate.
+//! A small landscape of recipes that is lawful, and with it the tests of boxes, of the search and
+//! of the check of a certificate.
 #![tactic(auto)]
 
 mod ladder;

@@ -70,7 +70,8 @@ module _ (l : Land) where
           subst (λ i. is_before l (get_or listed i []) r ≡ false) same b
     ]
 
-    -- where the first recipe that does not come before another is not that one, no recipe of the list is
+    -- where the first recipe that does not come before another is not that one, no recipe of the
+    -- list is
     pub none_there : (i : ℕ) → i ≤ length listed → ((k : ℕ) → k < i → is_before l (get_or listed k []) r ≡ true)
         → ((k : ℕ) → i ≤ k → k < length listed → is_before l (get_or listed k []) r ≡ false)
         → (i < length listed → get_or listed i [] ≡ r → ⊥) → is_listed listed r ≡ false

@@ -210,7 +210,8 @@ module _ (l : Land) (lawful : IsLawful l) where
         settles_on b bs x parts.0 here
         (sound (n + 1) (after b bs x) xs (after_parts l b bs x parts.0 (can_be_cut l claim listed b x here) parts.1) (trees_on b bs x xs here t) both.1)
 
-    -- what follows from a line that holds, of the lower corner of its box, holds of the corners of all such lines
+    -- what follows from a line that holds, of the lower corner of its box, holds of the corners of
+    -- all such lines
     corners_hold : (test : CertLine → Bool) (Q : List ℕ → Type 0)
         → ((b : Span) (x : CertLine) → test x ≡ true → line_fault l claim listed b x ≡ None → Q b.lo)
         → (n : ℕ) (bs : List Span) (xs : List CertLine) → line_failure l claim listed n bs xs ≡ None → AllByRecursion Q (corners test bs xs)

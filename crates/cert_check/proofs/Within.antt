@@ -87,7 +87,8 @@ pub grid_of : (l : Land) (a b c : Bool) → a && b && c ≡ true → a ≡ true
 grid_of l true b c h = refl
 grid_of l false b c h = h
 
--- the recipes of a list without a failure are of the grid, and each comes after the previous one, and so after all before it
+-- the recipes of a list without a failure are of the grid, and each comes after the previous one,
+-- and so after all before it
 pub record ListIsOrdered (l : Land) (claim : Claim) (previous : Option (List ℕ)) (listed : List (List ℕ)) : Type 0 where
   pub grid : (k : ℕ) → k < length listed → IsWithin (get_or listed k []) l.top
   pub early : (k : ℕ) → k < length listed → is_early l claim (get_or listed k []) ≡ true

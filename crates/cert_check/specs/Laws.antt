@@ -9,7 +9,8 @@ use Rattle.box_specs.specs.Meaning.{Means}
 use Rattle.box_specs.specs.Span.{IsBox, IsWithin}
 use Rattle.box_specs.specs.Validity.{IsValid}
 
--- what a valid certificate claims holds of the recipes, and each recipe that it lists is admitted and undecided
+-- what a valid certificate claims holds of the recipes, and each recipe that it lists is admitted
+-- and undecided
 abbrev pub ValidMeans : Land → Type 0
 ValidMeans l = (claim : Claim) (listed : List (List ℕ)) (lines : List CertLine) → IsLawful l → IsValid l claim listed lines → Means l listed claim
 

@@ -1,4 +1,5 @@
--- What is known of the claim and of the list once they are checked, before the walk over the lines of the tree.
+-- What is known of the claim and of the list once they are checked, before the walk over the lines
+-- of the tree.
 use Rattle.std.specs.Prelude.{◌≡◌, ◌<◌, ℕ, zero, suc, true, Option, Some, None, List, length, slice_index_or, []}
 use Rattle.box_specs.specs.declared.certificate.Claim.{Claim}
 use Rattle.box_specs.specs.declared.certificate.Claim.TheVariants.{Floor, Match, NoMatch}

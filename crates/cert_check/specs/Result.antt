@@ -18,7 +18,8 @@ abbrev pub checked_of : Option (ℕ × Why) → Checked
 checked_of None = Accepted
 checked_of (Some failure) = Refused failure.0 failure.1
 
--- the first failure of the lines of the tree, of the list against them, and of the claim against them
+-- the first failure of the lines of the tree, of the list against them, and of the claim against
+-- them
 abbrev pub tree_failure : Land → Claim → List (List ℕ) → List CertLine → Option (ℕ × Why)
 tree_failure l claim listed lines =
     or_next (line_failure l claim listed (4 + length listed) (l.top ∷ []) lines)

@@ -33,7 +33,7 @@ next_recipe (b ∷ waiting) line = own_recipe b line
 abbrev pub AtMostOne : (before now : ℕ) → Type 0
 AtMostOne before now = now ≤ before + 1
 
--- a line that splits a box splits it into two boxes
+-- a split line names a cut at which the box can be split
 abbrev pub CanBeCut : Span → CertLine → Type 0
 CanBeCut b (Split dye mid) = splits b dye mid ≡ true
 CanBeCut b (Limit k) = Unit {0}
@@ -42,7 +42,8 @@ CanBeCut b Dear = Unit {0}
 CanBeCut b Undecided = Unit {0}
 CanBeCut b Pass = Unit {0}
 
--- What a line that holds changes: the waiting boxes, which stay boxes of the landscape, and the mark of its recipe
+-- What a line that holds changes: the waiting boxes, which stay boxes of the landscape, and the
+-- mark of its recipe
 pub record Advances (l : Land) (listed : List (List ℕ)) (line : CertLine) (before now : List Span) (old new : List Bool) : Type 0 where
   pub waiting : now ≡ next_waiting before line
   pub parts : AllByRecursion (IsPart l) now

@@ -98,7 +98,8 @@ pub(crate) fn list_failure<L: Landscape>(
     None
 }
 
-/// The first index in a rising list whose recipe does not come before this one.
+/// The first index in a rising list whose recipe does not come before this one, or the length of
+/// the list where there is none.
 fn lower_bound<L: Landscape>(land: &L, listed: &StepsList, steps: &Steps) -> usize
     requires sorted { IsSorted (L.land land.now) listed.now }
     requires recipe { IsWithin steps.now.items (L.land land.now).top }

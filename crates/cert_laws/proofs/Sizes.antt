@@ -35,7 +35,8 @@ total_append size (x ∷ xs) ys =
     let rest = total_append size xs ys in
     omega (arith, rest)
 
--- a bound on the bytes of the lines of a tree by the number of judged boxes, with 60 more bytes for each undecided line
+-- a bound on the bytes of the lines of a tree by the number of judged boxes, with 60 more bytes for
+-- each undecided line
 pub record Sizes (xs : List CertLine) (n : ℕ) : Type 0 where
   pub bytes : total line_size xs + 60 * total undecided_size xs ≤ 36 * n + 26
   pub lines : length xs ≤ 2 * n + 1

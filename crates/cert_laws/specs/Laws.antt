@@ -21,15 +21,16 @@ module _ (l : Land) where
   abbrev pub search_cert : ℕ → Content
   search_cert budget = content_of (search_result l budget)
 
-  -- its recipes have the dyes of the landscape, and all its numbers are in their ranges
+  -- for a budget of up to 1,000,000: its recipes have the dyes of the landscape, and all its
+  -- numbers are in their ranges
   abbrev pub ResultFits : Type 0
   ResultFits = IsLawful l → (budget : ℕ) → budget ≤ 1000000 → IsCertFor (length l.top.lo) (search_cert budget)
 
-  -- its text has fewer than 40,000,000 bytes
+  -- for such a budget its text has fewer than 40,000,000 bytes
   abbrev pub ResultIsShort : Type 0
   ResultIsShort = IsLawful l → (budget : ℕ) → budget ≤ 1000000 → length (cert_text (search_cert budget)) < 40000000
 
-  -- its text is read as the same certificate
+  -- for such a budget its text is read as the same certificate
   abbrev pub ResultIsRead : Type 0
   ResultIsRead = IsLawful l → (budget : ℕ) → budget ≤ 1000000 → cert_of (length l.top.lo) (cert_text (search_cert budget)) ≡ Ok (search_cert budget)
 
@@ -41,9 +42,10 @@ module _ (l : Land) where
   abbrev pub ResultMeans : Type 0
   ResultMeans = IsLawful l → (budget : ℕ) → Means l (search_cert budget).listed (search_cert budget).claim
 
-  -- What the claim of a search means for the plain list of recipes. The recipe of a match is the first that is admitted and
-  -- passes; no match means that no recipe is admitted and passes; for both the budget suffices. Where it does not, no recipe
-  -- that costs less than the floor is admitted and passes
+  -- What the claim of a search means for the plain list of recipes. The recipe of a match is the
+  -- first that is admitted and passes; no match means that no recipe is admitted and passes; for
+  -- both the budget suffices. Where it does not, no recipe that costs less than the floor is
+  -- admitted and passes
   abbrev pub ClaimHolds : ℕ → Claim → Type 0
   ClaimHolds budget (Match recipe) = (need l ≤ budget) × IsAnswer l (Some recipe.items)
   ClaimHolds budget NoMatch = (need l ≤ budget) × IsAnswer l None

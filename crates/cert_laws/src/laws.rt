@@ -3,8 +3,8 @@
 ghost use Rattle.box_specs.specs.Landscape.{Land};
 ghost use Rattle.cert_laws.specs.Laws.{ResultFits, ResultIsFirst, ResultIsRead, ResultIsShort, ResultIsValid, ResultMeans};
 
-/// The numbers of the certificate of a search are in their ranges, its text is shorter than
-/// 40,000,000 bytes, and the text is read as that certificate.
+/// For a budget of up to 1,000,000 boxes the numbers of the certificate of a search are in their
+/// ranges, its text is shorter than 40,000,000 bytes, and the text is read as that certificate.
 pub fn text()
     ensures fits { (l : Land) → ResultFits l }
     ensures short { (l : Land) → ResultIsShort l }

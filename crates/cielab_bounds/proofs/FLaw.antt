@@ -32,7 +32,8 @@ pick_ordered r s r' s' false false p q u v = v refl refl
 floor_fits : (z : ℕ) → z / 3132 * 3132 ≤ z
 floor_fits z = omega (arith, div-add-mod' z 3132)
 
--- where a coarse lower end is on the root, so is the fine one; where a coarse upper end is not, nor is the fine one
+-- where a coarse lower end is on the root, so is the fine one; where a coarse upper end is not, nor
+-- is the fine one
 still_on_root : (n m t t' : ℕ) → 0 < m → m * t ≤ t' → 216 * n < 24389 * t → 24389 * t' ≤ 216 * (m * n) → ⊥
 still_on_root n m t t' some h on off = let p = mul-le-mul_left m (add-one-le on) in omega arith
 

@@ -1,4 +1,5 @@
--- The two parts of f: which one is taken, and how each compares with 6/29, the value at the threshold.
+-- The two parts of f: which one is taken, and how each compares with 6/29, the value at the
+-- threshold.
 use Rattle.std.proofs.Common.{ℕ, ◌≡◌, ◌+◌, ◌*◌, ◌≤◌, ◌<◌, true, false, arith, mul-le-mul, mul-le-mul_left, ⊎_elim}
 use Rattle.std.proofs.lemmas.Bool.{cases_lt}
 use Rattle.std.proofs.lemmas.Bool.Decides.{nat_tests}

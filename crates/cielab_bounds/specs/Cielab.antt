@@ -1,4 +1,5 @@
--- CIELAB (CIE 15) of the tristimulus ratios X/Xn, Y/Yn and Z/Zn, each an interval that is not below 0, at every scale n.
+-- CIELAB (CIE 15) of the tristimulus ratios X/Xn, Y/Yn and Z/Zn, each an interval that is not below
+-- 0, at every scale n.
 use Rattle.std.specs.Prelude.{ℕ, ◌+◌, ◌*◌, ℤ, pos, Bool, nat_lt, if◌then◌else◌, unsigned_abs}
 use Rattle.interval_specs.specs.Ends.{Ends, one_at}
 use Rattle.interval_specs.specs.Rounding.{floor_over, ceil_over}
@@ -10,7 +11,8 @@ use Rattle.fix_bounds.specs.Ratios.{RatioEnds}
 abbrev pub is_on_root : ℕ → ℕ → Bool
 is_on_root n t = nat_lt (216 * n) (24389 * t)
 
--- elsewhere f of a ratio r is (841/108) r + 4/29; for r = t / n that is this number over 3132, in n-ths
+-- elsewhere f of a ratio r is (841/108) r + 4/29; for r = t / n that is this number over 3132, in
+-- n-ths
 abbrev pub linear : ℕ → ℕ → ℕ
 linear n t = 24389 * t + 432 * n
 

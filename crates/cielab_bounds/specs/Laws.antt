@@ -1,4 +1,5 @@
--- The laws: f and the coordinates enclose those of narrower ratios where the scale grows from n to m * n.
+-- The laws: f and the coordinates enclose those of narrower ratios where the scale grows from n to
+-- m * n.
 use Rattle.std.specs.Prelude.{ℕ, pos, ◌*◌, ◌<◌, ◌≤ℤ◌}
 use Rattle.interval_specs.specs.Ends.{Ends}
 use Rattle.interval_specs.specs.Encloses.{Encloses}

@@ -1,4 +1,5 @@
--- What the calls in the constants and in the two forms of T require and ensure, over plain intervals.
+-- What the calls in the constants and in the two forms of T require and ensure, over plain
+-- intervals.
 use Rattle.std.proofs.Common.{ℕ, ℤ, pos, ◌≡◌, ◌∙◌, ◌+◌, ◌*◌, ◌^◌, ◌≤◌, ◌<◌, unsigned_abs, arith, ap, subst, sym, lit<, lit≤, mul-le-mul, mul-le-mul_left, mul-le-mul_right}
 use Rattle.interval_specs.specs.Ends.{Ends, magnitude_of}
 use Rattle.interval_specs.specs.Ranges.{MagnitudeUpTo, UpTo}

@@ -35,7 +35,8 @@ fn bracket<S: Scale>(low: u64) -> Iv<S>
     Iv::of_ends(below.lo(), above.hi())
 }
 
-/// `a` times a cosine plus `b` times a sine: the part of the point (a, b) along a direction.
+/// `a` times a cosine plus `b` times a sine: the part of the point (a, b) along the direction that
+/// has this cosine and this sine.
 pub(crate) fn projection<S: Scale>(a: Iv<S>, cos: u64, b: Iv<S>, sin: u64) -> Iv<S>
     requires a { MagnitudeUpTo (1000 * S.unit) a }
     requires b { MagnitudeUpTo (1000 * S.unit) b }

@@ -3,8 +3,9 @@
 ghost use Rattle.std.specs.Prelude.{ℕ};
 ghost use Rattle.cmc_specs.specs.Laws.{CmcEncloses, StandardEncloses};
 
-/// The law of the values of a standard: each keeps enclosing, on whichever side of 16 its lightness
-/// lies, and on whichever side of the two hues its hue.
+/// The law of the values of a standard: each keeps enclosing, whether its lightness is below 16 or
+/// not, whether its hue lies from 164 to 345 degrees or not, and where the intervals leave that
+/// open.
 pub fn keep()
     ensures { StandardEncloses }
 {}

@@ -18,7 +18,8 @@ fn high_weight_at<S: Scale>(t: i128) -> Quotient
     }
 }
 
-/// S_L of light colours, of lightness 16 or more: 0.040975 L1 / (1 + 0.01765 L1).
+/// 0.040975 L1 / (1 + 0.01765 L1), which is S_L of lightness 16 or more; an end of L1 below 16 is
+/// raised to 16.
 fn high_weight<S: Scale>(l1: Iv<S>) -> Iv<S>
     requires { MagnitudeUpTo (1000 * S.unit) l1 }
     ensures is { result ≡ high_weight S.unit l1 }

@@ -30,7 +30,8 @@ standard_encloses n m p p' few finer h =
       sh = hue_weight_encloses n m _ _ _ _ _ _ some finer sc f t;
     }
 
--- lower bounds of the three weights of a standard, which hold where the ends of its a and b are in order
+-- lower bounds of the three weights of a standard, which hold where the ends of its a and b are in
+-- order
 pub record Weighted (n : ℕ) (s : StandardEnds) : Type 0 where
   pub sl : AtLeast 51 100 n s.sl
   pub sc : AtLeast 637 1000 n s.sc

@@ -1,5 +1,6 @@
--- The CMC(l:c) colour difference of ISO 105-J03, at every scale n. The standard and the sample are each given by L, a and
--- b as intervals. Index 1 is the standard, and each formula is evaluated in the order in which it is written.
+-- The CMC(l:c) colour difference of ISO 105-J03, at every scale n. The standard and the sample are
+-- each given by L, a and b as intervals. Index 1 is the standard. The definitions fix the order in
+-- which each formula is evaluated.
 use Rattle.std.specs.Prelude.{ℕ, ◌+◌, ◌*◌, ◌^◌, pos, Bool, ◌&&◌, ◌||◌, ◌==◌, int_le, int_lt, if◌then◌else◌, unsigned_abs}
 use Rattle.interval_specs.specs.Ends.{Ends, one_at}
 use Rattle.interval_specs.specs.Rounding.{floor_over, ceil_over}
@@ -106,7 +107,7 @@ chroma_weight n c1 = sum_of (ratio_at n (pos 638) 1000) (chroma_gain n c1)
 
 -- ---- F
 
--- x / (x + 1900) for an end x that is not below 0
+-- x / (x + 1900) of an interval x that is not below 0, end by end
 unfoldable pub fourth_power_share : ℕ → Ends → Ends
 fourth_power_share n x =
     record {
@@ -128,7 +129,8 @@ along_35 n a b = difference_of (product_at n a (cos35 n)) (product_at n b (sin35
 unfoldable pub along_12 : ℕ → Ends → Ends → Ends
 along_12 n a b = sum_of (product_at n a (cos12 n)) (product_at n b (sin12 n))
 
--- the magnitude of a cosine, from w, its product with the chroma: the interval from 0 to 1 where the chroma may be 0
+-- the magnitude of a cosine, from w, its product with the chroma: the interval from 0 to 1 where
+-- the chroma may be 0
 unfoldable pub cosine_magnitude : ℕ → Ends → Ends → Ends
 cosine_magnitude n w c1 =
     if unsigned_abs c1.lo == 0 then record { lo = pos 0; hi = pos n }
@@ -155,7 +157,8 @@ is_outside p r = int_lt (pos 0) p.lo && int_lt (pos 0) r.lo
 abbrev pub is_inside : Ends → Ends → Bool
 is_inside p r = int_le p.hi (pos 0) || int_le r.hi (pos 0)
 
--- T; where it is uncertain whether the hue lies outside 164 to 345 degrees, it is the hull of both forms
+-- T; where it is uncertain whether the hue lies outside 164 to 345 degrees, it is the hull of both
+-- forms
 unfoldable pub hue_factor : ℕ → Ends → Ends → Ends → Ends
 hue_factor n a b c1 =
     if is_outside (hue_sum_15 n a b) (hue_sum_16 n a b) then first_form n a b c1
@@ -194,14 +197,14 @@ standard_at n p =
 
 -- ---- the difference
 
--- dL = L2 - L1 over l S_L, the weight l in tenths
+-- dL / (l S_L), where dL = L2 - L1 and l10 is the weight l in tenths
 unfoldable pub lightness_term : ℕ → ℕ → StandardEnds → LabEnds → Ends
 lightness_term n l10 s q = quotient_at n (difference_of q.l s.l1) (fraction_of l10 10 s.sl)
 
 abbrev pub chroma_difference : ℕ → StandardEnds → LabEnds → Ends
 chroma_difference n s q = difference_of (chroma_at n q.a q.b) s.c1
 
--- dC = C2 - C1 over c S_C, the weight c in tenths
+-- dC / (c S_C), where dC = C2 - C1 and c10 is the weight c in tenths
 unfoldable pub chroma_term : ℕ → ℕ → StandardEnds → LabEnds → Ends
 chroma_term n c10 s q = quotient_at n (chroma_difference n s q) (fraction_of c10 10 s.sc)
 

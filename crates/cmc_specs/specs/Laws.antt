@@ -1,5 +1,5 @@
--- The laws: the values of a standard and the difference enclose those of narrower colours where the scale grows from n to
--- m * n. The colours may be of any magnitude.
+-- The laws: the values of a standard and the difference enclose those of narrower colours where the
+-- scale grows from n to m * n. The colours may be of any magnitude.
 use Rattle.std.specs.Prelude.{ℕ, ◌*◌, ◌^◌, ◌<◌, ◌≤◌}
 use Rattle.interval_specs.specs.Encloses.{Encloses}
 use Rattle.cielab_bounds.specs.Cielab.{LabEnds}

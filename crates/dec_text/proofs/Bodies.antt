@@ -1,4 +1,5 @@
--- A body of digits, a point and digits, or only of digits: its parts, and the number that it writes.
+-- A body of digits, a point and digits, or only of digits: its parts, and the number that it
+-- writes.
 use Rattle.std.proofs.Common.{◌≡◌, ℕ, suc, ◌+◌, ◌-◌, ◌*◌, ◌^◌, ◌<◌, ◌≤◌, List, [], ◌∷◌, ◌++◌, length, take, drop, Bool, true, false, cond, not, Option, Some, None, Result, Ok, nat_lt, refl, sym, ap, ◌∙◌, subst, arith, unwrap_or, ℤ, Err, if◌then◌else◌}
 use Rattle.std.proofs.Math.Seq.{take-append_seam, take-length, drop-length}
 use Rattle.std.proofs.Math.ListN.{drop_of_length-le}

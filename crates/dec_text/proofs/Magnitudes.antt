@@ -28,7 +28,8 @@ capped_product most a b q e some = ⊎_elim
     (λ over. let x : a ≡ most = omega arith in let y : most ≤ a * q = grown most a q (omega arith) some in let z : most ≤ b * q = grown most b q over some in omega arith)
     (cases_lt b most)
 
--- the digits before the point and those of the decimals, capped in turn, and a zero for each decimal that is not written
+-- the digits before the point and those of the decimals, capped in turn, and a zero for each
+-- decimal that is not written
 pub capped-magnitude_of : (most decimals : ℕ) (whole fraction : List ℕ) (written before digits power : ℕ) → written ≡ min decimals (length fraction) → before ≡ min most (digits_from 0 whole) → digits ≡ min most (digits_from before (take written fraction)) → power ≡ 10 ^ (decimals - written) → min (digits * power) most ≡ min most (magnitude_of decimals whole fraction)
 unfolding magnitude_of
 capped-magnitude_of most decimals whole fraction written before digits power w f d p =

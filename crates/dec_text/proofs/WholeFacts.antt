@@ -32,7 +32,8 @@ digits_below n (d ∷ ds) h =
     let power : 10 ^ suc (length ds) ≡ 10 ^ length ds * 10 = pow-suc 10 (length ds) in
     rw power (omega (arith, rest, wider))
 
--- a number that was counted up to a cap is exact where it has few enough digits to lie below the cap
+-- a number that was counted up to a cap is exact where it has few enough digits to lie below the
+-- cap
 pub record IsExact (value most : ℕ) (text : List ℕ) : Type 0 where
   pub is : value ≡ digits_from 0 text
   pub small : value < 10 ^ most

@@ -1,11 +1,11 @@
--- Decimal text: an optional sign, digits, and optionally a point and decimals after it.
+-- Decimal text: an optional sign, and digits with at most one point before, among or after them.
 use Rattle.std.specs.Prelude.{ℕ, ◌+◌, ◌-◌, ◌*◌, ◌^◌, ℤ, pos, neg_ℤ, Bool, true, false, ◌&&◌, ◌||◌, not, ◌==◌, nat_lt, nat_le, if◌then◌else◌, List, [], ◌∷◌, length, take, drop, Option, Some, None, Result, Ok, Err, unwrap_or, position}
 use Rattle.std.specs.List.{list_any}
 use Rattle.std.specs.Option.{option_map, option_or}
 use Rattle.dec_text.specs.declared.fault.DecFault.{DecFault}
 use Rattle.dec_text.specs.declared.fault.DecFault.TheVariants.{Empty, NotDigit, TooManyPlaces, TooLarge}
 
--- the greatest magnitude of a number, counted in units of its last decimal place
+-- the greatest magnitude of a number, in units of the last decimal place that it may have
 abbrev pub largest : ℕ
 largest = 10 ^ 15
 
@@ -29,17 +29,19 @@ is_blank (_ ∷ (_ ∷ _)) = false
 abbrev pub point_of : List ℕ → ℕ
 point_of body = unwrap_or (position (λ b. b == 46) body) (length body)
 
--- the bytes before the first point, and those after it
+-- the bytes before the first point
 abbrev pub whole_of : List ℕ → List ℕ
 whole_of body = take (point_of body) body
 
+-- the bytes after the first point
 abbrev pub fraction_of : List ℕ → List ℕ
 fraction_of body = drop (point_of body + 1) body
 
 abbrev pub is_digit : ℕ → Bool
 is_digit b = nat_le 48 b && nat_le b 57
 
--- the offset of the first byte of a part that is no digit, where the part begins at the offset `start`
+-- the offset of the first byte of a part that is no digit, where the part begins at the offset
+-- `start`
 abbrev pub stray_from : ℕ → List ℕ → Option ℕ
 stray_from start part = option_map (λ k. start + k) (position (λ b. not (is_digit b)) part)
 
@@ -48,7 +50,7 @@ abbrev pub digits_from : ℕ → List ℕ → ℕ
 digits_from n [] = n
 digits_from n (d ∷ ds) = digits_from (10 * n + (d - 48)) ds
 
--- the magnitude of the number, counted in units of its last decimal place: a decimal that is not written is 0
+-- the magnitude of the number, in units of 10^-decimals: a decimal that is not written is 0
 unfoldable pub magnitude_of : ℕ → List ℕ → List ℕ → ℕ
 magnitude_of decimals whole fraction = digits_from (digits_from 0 whole) (take decimals fraction) * 10 ^ (decimals - length fraction)
 
@@ -80,6 +82,6 @@ body_value decimals minus sign body =
     (option_or (stray_from sign (whole_of body)) (stray_from (sign + point_of body + 1) (fraction_of body)))
     (number_of decimals minus (whole_of body) (fraction_of body))
 
--- the number that a text writes, counted in units of its last decimal place, or the first fault
+-- the number that a text writes, in units of 10^-decimals, or the first fault
 unfoldable pub decimal_of : ℕ → List ℕ → Result ℤ DecFault
 decimal_of decimals text = body_value decimals (is_minus text) (sign_len text) (drop (sign_len text) text)

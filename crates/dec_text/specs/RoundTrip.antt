@@ -4,7 +4,8 @@ use Rattle.dec_text.specs.Decimal.{decimal_of, largest}
 use Rattle.dec_text.specs.FixedPoint.{fixed_text}
 use Rattle.dec_text.specs.Whole.{whole_number}
 
--- a number that is printed and read with the same number of decimals is read back, if reading accepts its magnitude
+-- a number that is printed and read with the same number of decimals is read back, if reading
+-- accepts its magnitude
 abbrev pub ReadsBack : Type 0
 ReadsBack = (decimals : ℕ) (number : ℤ) → unsigned_abs number ≤ largest → decimal_of decimals (fixed_text decimals number) ≡ Ok number
 

@@ -1,9 +1,10 @@
-/// Why a text is no decimal number.
+/// Why a text is not accepted as a decimal number.
 #[derive(Clone, Copy, Debug, PartialEq, Eq)]
 pub enum DecFault {
     /// Nothing follows the sign, or only a point.
     Empty,
-    /// A byte is neither a digit nor the first point. The number is its offset in the whole text.
+    /// A byte after the sign is neither a digit nor the first point. The number is the offset of
+    /// the first such byte in the whole text.
     NotDigit(usize),
     /// A digit other than 0 follows the last decimal place that is allowed.
     TooManyPlaces,

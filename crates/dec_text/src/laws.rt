@@ -1,7 +1,8 @@
 //! The laws that what is printed is read back. A call does nothing; what it ensures is the law.
 ghost use Rattle.dec_text.specs.RoundTrip.{ReadsBack, WholeReadsBack};
 
-/// [`read_decimal`](crate::read_decimal) reads back what [`put_fixed`](crate::put_fixed) appends.
+/// [`read_decimal`](crate::read_decimal) reads back what [`put_fixed`](crate::put_fixed) appends,
+/// with the same number of decimals, at most 6, and for magnitudes of at most 10^15.
 pub fn reads_back()
     ensures { ReadsBack }
 {}

@@ -1,4 +1,4 @@
-//! The magnitude of a decimal number, counted in units of its last decimal place.
+//! The magnitude of a decimal number, in units of the last decimal place that it may have.
 
 ghost use Rattle.std.specs.Prelude.{◌≡◌, ◌+◌, ◌*◌, ◌≤◌, min};
 ghost use Rattle.dec_text.specs.Decimal.{digits_from, magnitude_of, has_more, largest};

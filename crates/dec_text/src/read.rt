@@ -8,14 +8,14 @@ use crate::fault::DecFault;
 use crate::magnitude::{LARGEST, magnitude, more};
 
 /// The number that the text writes with up to `decimals` decimals, counted in units of the last
-/// decimal place: with 4 decimals `-12.5` is -125,000. The text may begin with one `+` or `-`, the
-/// digits before or after the point may be missing (not both), and zeros after the last decimal
-/// place are ignored.
+/// decimal place that it may have: with 4 decimals `-12.5` is -125,000. The text may begin with one
+/// `+` or `-`, the digits before or after the point may be missing (not both), and zeros after the
+/// last decimal place are ignored.
 ///
-/// The error is the first of these that applies: nothing but a sign and a point
-/// ([`DecFault::Empty`]), a byte that is no digit ([`DecFault::NotDigit`]), a digit other than 0
-/// after the last decimal place ([`DecFault::TooManyPlaces`]), a magnitude above 10^15
-/// ([`DecFault::TooLarge`]).
+/// The error is the first of these that applies: nothing, or nothing but a sign, a point or both
+/// ([`DecFault::Empty`]), a byte after the sign that is neither a digit nor the first point
+/// ([`DecFault::NotDigit`]), a digit other than 0 after the last decimal place
+/// ([`DecFault::TooManyPlaces`]), a magnitude above 10^15 ([`DecFault::TooLarge`]).
 #[tactic(auto, unfolding(crate::specs::Decimal::decimal_of))]
 pub fn read_decimal(text: &[u8], decimals: u8) -> Result<i64, DecFault>
     requires { decimals ≤ 6 }

@@ -1,4 +1,5 @@
--- The weights files are read: both are the same for all numbers, so reading their records is computed.
+-- The weights files are read: both are the same for all numbers, so reading their records is
+-- computed.
 use Rattle.std.proofs.Common.{◌≡◌, ◌++◌, ◌∷◌, ◌∙◌, [], Bool, true, false, ℕ, Ok, ap, codes, List, map, refl}
 use Rattle.std.specs.Fmt.{digits}
 use Rattle.std.specs.List.{list_all}

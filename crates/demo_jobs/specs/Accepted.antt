@@ -13,8 +13,9 @@ use Rattle.demo_jobs.specs.JobTable.{job_table}
 use Rattle.demo_jobs.specs.Values.{both_weights, job_values, resolved_of, weight_table}
 use Rattle.demo_jobs.specs.WeightsText.{weights_text}
 
--- each table is no longer than its reader allows and is read; the job is read both where it must have no batch and where it may
--- have one, and it resolves
+-- the texts of the curve file and of the weights files are no longer than their readers allow, and
+-- are read; the job is read both where it must have no batch and where it may have one; and the job
+-- resolves
 pub record IsAccepted (drawn : List ℕ) (job curves first second : List ℕ) : Type 0 where
   pub curves_short : length curves ≤ 1000000
   pub first_short : length first ≤ 1000000

@@ -4,7 +4,8 @@ use Rattle.std.specs.Int.{abs_diff}
 use Rattle.std.specs.List.{range_with_len}
 use Rattle.demo_jobs.specs.declared.dyes.DrawnDye.{DrawnDye}
 
--- the height of a triangle at an index: h at the index top, one less with each step away from it, and never below 0
+-- the height of a triangle at an index: h at the index top, one less with each step away from it,
+-- and never below 0
 abbrev pub triangle : ℕ → ℕ → ℕ → ℕ
 triangle h top index = h - abs_diff index top
 
@@ -19,7 +20,7 @@ substrate_at index = 750000 + 3000 * index
 unfoldable pub substrate : List ℕ
 substrate = map substrate_at indices
 
--- how strongly a dye absorbs light
+-- how strongly a dye absorbs light at a wavelength index
 abbrev pub strength : DrawnDye → ℕ → ℕ
 strength dye index = dye.height * triangle 9 dye.centre index / 9 + 5
 

@@ -14,8 +14,8 @@ unfoldable pub draws_after : ℕ → ℕ → List ℕ
 draws_after zero x = []
 draws_after (suc k) x = drawn (next_state x) ∷ draws_after k (next_state x)
 
--- the draws for the job with a number, which is the first state: four for each of its six dyes, and two for each dye of the
--- hidden recipe
+-- the draws for the job with this number, which is the first state; four draws are for each of the
+-- six dyes, and two for each of the three dyes of the hidden recipe
 unfoldable pub draws : ℕ → List ℕ
 draws number = draws_after 30 number
 

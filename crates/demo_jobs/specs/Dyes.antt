@@ -18,7 +18,8 @@ drawn_dye draws index = record {
 unfoldable pub drawn_dyes : List ℕ → List DrawnDye
 drawn_dyes draws = map (drawn_dye draws) (range_with_len 0 6)
 
--- the steps of the dye at an index in the hidden recipe: of each pair of dyes one is drawn, and then 20 to 119 steps of it
+-- the steps of the dye at an index in the hidden recipe: of dyes 1 and 2, of 3 and 4, and of 5 and
+-- 6 one is drawn and has 20 to 119 steps, and the other has none
 abbrev pub hidden_steps : List ℕ → ℕ → ℕ
 hidden_steps draws index =
     if draw draws (24 + index / 2 * 2) 2 == index % 2 then 20 + draw draws (24 + index / 2 * 2 + 1) 100 else 0

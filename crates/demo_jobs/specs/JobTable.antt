@@ -14,7 +14,8 @@ whole number = integer (pos number)
 abbrev pub tables : List Members → Data
 tables list = array (items_of (map table list))
 
--- a light: its weights file, and its tolerance in thousandths. The keys of a table are in the order of their bytes
+-- a light: its weights file, and its tolerance in thousandths. The keys of a table are in the order
+-- of their bytes
 unfoldable pub light_table : List ℕ → ℕ → Members
 light_table weights tolerance = member (codes "tolerance") (whole tolerance) (member (codes "weights") (string weights) no_members)
 

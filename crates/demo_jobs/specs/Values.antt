@@ -13,7 +13,7 @@ use Rattle.demo_jobs.specs.Dyes.{drawn_dyes, hidden_recipe}
 use Rattle.demo_jobs.specs.Standard.{dye_data, dyeing_units, standard}
 use Rattle.demo_jobs.specs.WeightsText.{weights_at, white_of}
 
--- how many hundred-thousandths a unit of the last decimal place of a light's weights is
+-- one unit in the last decimal place of a light's weights, as a number of hundred-thousandths
 abbrev pub unit_of : Light → ℕ
 unit_of First = 100000
 unit_of Second = 10000

@@ -9,8 +9,8 @@ use Rattle.demo_jobs.specs.Lines.{number_field, table_text, wavelength_field}
 abbrev pub first_weights : ℕ → List ℕ
 first_weights index = (triangle 8 20 index + triangle 3 4 index) ∷ triangle 10 15 index ∷ (2 * triangle 6 5 index) ∷ []
 
--- the weights of a light at a wavelength index, in units of their last decimal place: those of the second light are those of the
--- first times (10 + index) / 10, in tenths
+-- the weights of a light at a wavelength index, in units of their last decimal place; as values,
+-- those of the second light are those of the first times (10 + index) / 10
 unfoldable pub weights_at : Light → ℕ → List ℕ
 weights_at First index = first_weights index
 weights_at Second index = map (λ weight. weight * (10 + index)) (first_weights index)

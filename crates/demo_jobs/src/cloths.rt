@@ -31,7 +31,8 @@ fn substrate_at(index: u32) -> u32
     750_000 + 3_000 * index
 }
 
-/// How strongly a dye absorbs light.
+/// How strongly a dye absorbs light at a wavelength index: 100 units of it divide the reflectance
+/// by `1 + strength / 1000`.
 fn strength(dye: &DrawnDye, index: u32) -> u32
     requires { IsDrawn dye.now }
     ensures is { result ≡ strength dye.now index }

@@ -16,7 +16,7 @@ pub(crate) struct DrawnDye {
     pub(crate) number: u32,
     /// The index of the wavelength that it absorbs most.
     pub(crate) centre: u32,
-    /// How strongly it absorbs at that wavelength.
+    /// How strongly it absorbs at that wavelength, less 5 (see `strength`).
     pub(crate) height: u32,
     /// What a unit of it costs.
     pub(crate) price: u32,
@@ -56,8 +56,8 @@ pub(crate) fn drawn_dyes(draws: &[u32]) -> ArrayVec<DrawnDye, DYES>
     dyes
 }
 
-/// The steps of the dye at an index in the hidden recipe: of each pair of dyes, one is drawn, and
-/// the other has no steps.
+/// The steps of the dye at an index in the hidden recipe: of dyes 1 and 2, of 3 and 4, and of 5 and
+/// 6 one is drawn and has 20 to 119 steps, and the other has none.
 fn hidden_steps(draws: &[u32], index: usize) -> u16
     requires draws { length draws.now ≡ 30 }
     requires index { index < 6 }

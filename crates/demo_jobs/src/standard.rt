@@ -58,7 +58,7 @@ fn all_calibrated(alloc: Global, dyes: &[DrawnDye]) -> Result<Vec<Dye>, AllocErr
     Ok(all)
 }
 
-/// The reflectance of an enclosure's lower end, in millionths.
+/// The lower end of a reflectance, in whole millionths, rounded down: at least 100.
 fn standard_at(reflectance: Iv<Base>) -> u32
     requires { UpTo (10 ^ 12) reflectance }
     ensures is { result ≡ standard_at reflectance }
@@ -67,7 +67,7 @@ fn standard_at(reflectance: Iv<Base>) -> u32
     ((reflectance.lo() / 1_000_000) as u32).max(100)
 }
 
-/// The reflectances of a spectrum, in millionths.
+/// The lower ends of a spectrum, in whole millionths, rounded down: each at least 100.
 fn curve_of(spectrum: &Spectrum<Base>) -> Curve
     ensures { result ≡ map standard_at spectrum.now }
 {

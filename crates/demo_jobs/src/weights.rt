@@ -37,8 +37,9 @@ impl Light {
         }
     }
 
-    /// The weights at a wavelength index, in units of their last decimal place: those of the second
-    /// light are those of the first times `(10 + index) / 10`.
+    /// The weights at a wavelength index, in units of their last decimal place. As values, those of
+    /// the second light are those of the first times `(10 + index) / 10`: as numbers of tenths,
+    /// those of the first times `10 + index`.
     #[tactic(auto, unfolding(crate::specs::WeightsText::weights_at))]
     pub(crate) fn weights(self, index: u32) -> [u32; 3]
         requires { index < 31 }

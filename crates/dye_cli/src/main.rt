@@ -12,7 +12,8 @@ use std::{env, io};
 /// The status where memory runs out while the words are read.
 const OUT_OF_MEMORY: u8 = 10;
 
-// The words after the program's name. A word that is not UTF-8 makes the call fail as a whole.
+// The words after the program's name. Where one of them is not UTF-8 the result is an error, and
+// `main` goes on as if there were no words: the usage text is printed.
 fn words_of<R: Env + AllocGlobal>(rt: &R) -> io::Result<Vec<String>> {
     let mut words = Vec::new(rt.alloc());
     for word in env::args(rt)?.skip(1) {

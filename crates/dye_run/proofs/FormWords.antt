@@ -1,4 +1,5 @@
--- The words of a command on a job and its certificate: the first word does not end as a certificate, and the second does.
+-- The words of a command on a job and its certificate: the first word does not end as a
+-- certificate, and the second does.
 use Rattle.std.proofs.Common.{◌≡◌, ℕ, List, [], ◌∷◌, Option, Some, None, Bool, true, false, not, ◌&&◌, ◌==◌, codes, if◌then◌else◌, option_map, refl, subst}
 use Rattle.std.specs.List.{ends_with}
 use Rattle.std.specs.Str.{bytes_eq}

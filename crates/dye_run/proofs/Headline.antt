@@ -30,7 +30,7 @@ use Rattle.dye_run.specs.Demo.{demo_job, demo_report, summary_text}
 use Rattle.dye_run.specs.Due.{CanBeRead, up_to_limit}
 use Rattle.dye_run.specs.Endings.{IsSearchable, Leaves, World, with_written}
 use Rattle.dye_run.specs.Forms.{check, correct, demo, form_of, predict}
-use Rattle.dye_run.specs.Headline.{Confirms, Finds, IsFoundStatus, IsJobOfFiles, SaysOfRecipes, Summarises}
+use Rattle.dye_run.specs.Headline.{Confirms, Finds, IsJobOfFiles, IsSearchStatus, SaysOfRecipes, Summarises}
 use Rattle.dye_run.specs.Inputs.{table_limit}
 use Rattle.dye_run.specs.Jobs.{asks_cert, asks_job, cert_limit, job_from, job_limit, light_files, unless_broken}
 use Rattle.dye_run.specs.Outcome.{Fault, conclusion_status, grammar, invalid, outcome_of, reported, too_long}
@@ -66,7 +66,8 @@ unbroken : (name : List ℕ) (job : Result Values JobFault) (j : Values) → unl
 unbroken name (Ok v) j e = (let h : Ok v ≡ Ok j = e in ap (λ x. Ok x) (let same : v ≡ j = cc in same))
 unbroken name (Err fault) j e = absurd (let h : Err (outcome.job name fault) ≡ Ok j = e in cc)
 
--- the job is also accepted by the rule of a check, and none of its files has the name of a certificate
+-- the job is also accepted by the rule of a check, and none of its files has the name of a
+-- certificate
 files_kept : (rule : BatchRule) (name : List ℕ) (bytes_read : Option (List ℕ)) (j : Values) → job_from rule name bytes_read ≡ Ok j → (job_from Either name bytes_read ≡ Ok j) × IsNoCert j.head.curves × All IsNoCert (light_files j)
 unfolding job_from
 files_kept rule name None j e = absurd (let h : Err (too_long name) ≡ Ok j = e in cc)
@@ -242,7 +243,7 @@ module _ (number : ℕ) (before after : World) (status : ℕ) (report : Report) 
 
 -- ---- by the status
 
-found_kind : (status : ℕ) → IsFoundStatus status → table.kind_of status ≡ table.report
+found_kind : (status : ℕ) → IsSearchStatus status → table.kind_of status ≡ table.report
 found_kind status (inl e) = ap table.kind_of e
 found_kind status (inr (inl e)) = ap table.kind_of e
 found_kind status (inr (inr e)) = ap table.kind_of e
@@ -251,12 +252,12 @@ module _ (ws : List (List ℕ)) (before after : World) (status : ℕ) (tells : t
   report_of : table.kind_of status ≡ table.report → table.IsReport (form_of ws) before after status
   report_of e = subst (λ k. table.Tells (form_of ws) before after k status) e tells.tells
 
-  says_predicts : (words : CertWords) → form_of ws ≡ Some (predict words) → IsFoundStatus status → Finds Without words before after status
+  says_predicts : (words : CertWords) → form_of ws ≡ Some (predict words) → IsSearchStatus status → Finds Without words before after status
   says_predicts words e h =
       let r = subst (λ f. table.IsReport f before after status) e (report_of (found_kind status h)) in
       finds Without words (predict_words ws words e) before after status r.report r.answers r.status r.leaves r.searched
 
-  says_corrects : (words : CertWords) → form_of ws ≡ Some (correct words) → IsFoundStatus status → Finds With words before after status
+  says_corrects : (words : CertWords) → form_of ws ≡ Some (correct words) → IsSearchStatus status → Finds With words before after status
   says_corrects words e h =
       let r = subst (λ f. table.IsReport f before after status) e (report_of (found_kind status h)) in
       finds With words (correct_words ws words e) before after status r.report r.answers r.status r.leaves r.searched
@@ -266,7 +267,7 @@ module _ (ws : List (List ℕ)) (before after : World) (status : ℕ) (tells : t
       let r = subst (λ f. table.IsReport f before after status) e (report_of (found_kind status (inl h))) in
       confirms words before after r.report r.answers r.leaves r.searched
 
-  says_summarises : (number : ℕ) → form_of ws ≡ Some (demo number) → IsFoundStatus status → Summarises number before after status
+  says_summarises : (number : ℕ) → form_of ws ≡ Some (demo number) → IsSearchStatus status → Summarises number before after status
   says_summarises number e h =
       let r = subst (λ f. table.IsReport f before after status) e (report_of (found_kind status h)) in
       summary number before after status r.report r.answers r.status r.leaves r.searched

@@ -1,4 +1,5 @@
--- What was read and judged is the input of a command, and the judgement of the input is the outcome.
+-- What was read and judged is the input of a command, and the judgement of the input is the
+-- outcome.
 use Rattle.std.proofs.Common.{◌≡◌, ℕ, List, Option, Some, None, IfSome, IfOk, Result, Ok, Err, refl, sym, ap, ◌∙◌, subst, inl, inr, arith}
 use Rattle.job_file.specs.Resolve.{ResolvedJob}
 use Rattle.job_file.specs.ResolvedView.{resolved_view}

@@ -1,5 +1,5 @@
--- The possible outcomes of a command over its files: a report that writes the command's file, if it has one, and whose enclosures
--- hold at every finer scale, or a refusal.
+-- The possible outcomes of a command over its files: a report that writes the command's file, if it
+-- has one, and whose enclosures hold at every finer scale, or a refusal.
 use Rattle.std.proofs.Common.{◌≡◌, ℕ, List, Option, Result, Ok, Err, All, option_map, refl}
 use Rattle.dye_run.specs.Answers.{Report, StandsFiner}
 use Rattle.dye_run.specs.Inputs.{◌>>=◌}

@@ -1,4 +1,5 @@
--- The report of `show`: its enclosures hold those of every finer scale, and its verdicts are true there.
+-- The report of `show`: its enclosures hold those of every finer scale, and its verdicts are true
+-- there.
 use Rattle.std.proofs.Common.{◌+◌, ◌*◌, ◌<◌, ◌≤◌, ℕ, List, [], ◌∷◌, Some, None, All, lit≤, refl, arith}
 use Rattle.std.specs.List.{AllZip}
 use Rattle.std.proofs.lemmas.List.Elements.{All-cons}

@@ -14,8 +14,8 @@ use Rattle.dye_run.specs.declared.statuses.Conclusion.TheVariants.{NoVerdict}
 abbrev pub base_unit : ℕ
 base_unit = 10 ^ 12
 
--- a quantity that is evaluated with outward rounding: the label of its line, its enclosure at each scale, and its
--- tolerance in thousandths, if it has one
+-- a quantity that is evaluated with outward rounding: the label of its line, its enclosure at each
+-- scale, and its tolerance in thousandths, if it has one
 pub record Evaluation : Type 0 where
   pub label : List ℕ
   pub at : ℕ → Ends
@@ -25,16 +25,18 @@ pub record Evaluation : Type 0 where
 abbrev pub evaluation : List ℕ → (ℕ → Ends) → Evaluation
 evaluation label at = record { label = label; at = at; tolerance = None }
 
--- the verdict on its ends at scale n, against a tolerance
+-- the verdict on the ends of an evaluation at scale n, against a tolerance in thousandths
 abbrev pub verdict_on : Evaluation → ℕ → ℕ → Verdict
 verdict_on e tolerance n = light_verdict n tolerance 1 (e.at n)
 
--- where the verdict by the ends at the base scale is a pass or a fail, that at a finer scale n is the same
+-- where the verdict by the ends at the base scale is a pass or a fail, that at a finer scale n is
+-- the same
 abbrev pub VerdictStands : Evaluation → ℕ → Type 0
 VerdictStands e n = IfSome e.tolerance (λ t.
     (verdict_on e t base_unit ≡ Pass → verdict_on e t n ≡ Pass) × (verdict_on e t base_unit ≡ Fail 1 → verdict_on e t n ≡ Fail 1))
 
--- at every finer scale the enclosure is within that at the base scale, and a pass or a fail stays the same
+-- at every finer scale m * 10^12 the enclosure is within that at the base scale, and a pass or a
+-- fail stays the same
 pub record StandsFiner (e : Evaluation) : Type 0 where
   pub encloses : (m : ℕ) → 0 < m → Encloses m (e.at base_unit) (e.at (m * base_unit))
   pub verdict : (m : ℕ) → 0 < m → VerdictStands e (m * base_unit)
@@ -51,8 +53,9 @@ line_of e = line e.label (e.at base_unit)
 abbrev pub lines_of : List Evaluation → List ℕ
 lines_of evaluations = flat_map line_of evaluations
 
--- a report: how it ends, its text, the evaluations that the text shows, the name and the bytes of the file that is written,
--- if the command writes one, and the job whose recipes were searched or checked, if any were
+-- a report: how it ends, its text, the evaluations that the text shows, the name and the bytes of
+-- the file that is written, if the command writes one, and the job whose recipes were searched or
+-- checked, if any were
 pub record Report : Type 0 where
   pub conclusion : Conclusion
   pub text : List ℕ

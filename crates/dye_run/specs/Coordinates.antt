@@ -6,7 +6,8 @@ use Rattle.dye_run.specs.Inputs.{◌>>=◌, Tables, curve_from}
 use Rattle.dye_run.specs.Outcome.{Fault}
 use Rattle.dye_run.specs.Words.{LitColumn}
 
--- the report of the evaluations of a column under the light, from the curves and the weights of the files
+-- the report of the evaluations of a column under the light, from the curves and the weights of the
+-- files
 unfoldable pub coordinates_report : (WeightTable → List ℕ → List Evaluation) → LitColumn → Tables → Result Report Fault
 coordinates_report evaluations words tables = do
   curve ← curve_from words.curves words.column tables.book

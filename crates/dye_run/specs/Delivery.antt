@@ -9,8 +9,8 @@ use Rattle.shelf_io.specs.View.{ShelfView, SinkView}
 use Rattle.dye_run.specs.Endings.{FailsToWrite, World, not_written_status}
 use Rattle.dye_run.specs.Outcome.{not_written, text_of}
 
--- A text was put, and the result is its status. Or the put, which was not promised to succeed, failed, and the result is the
--- status of a failed put
+-- A text was put, and the result is its status. Or the put, which was not promised to succeed,
+-- failed, and the result is the status of a failed put
 pub data Prints (text : List ℕ) (status : ℕ) (before after : SinkView) (result : ℕ) : Type 0 where
   whole : after.taken ≡ append_known before.taken text
       → after.faults ≡ before.faults
@@ -31,8 +31,8 @@ abbrev pub IsWritten : Option (List ℕ × List ℕ) → (before after : ShelfVi
 IsWritten None before after = after ≡ before
 IsWritten (Some file) before after = WritesFile file.0 file.1 before after
 
--- The file, if there is one, was written, and then the text was printed; or the file could not be written, and a text that says
--- so was printed
+-- The file, if there is one, was written, and then the text was put; or the file could not be
+-- written, and a text that says so was put. The put may have failed
 pub data Delivers (file : Option (List ℕ × List ℕ)) (text : List ℕ) (status : ℕ) (before after : World) (result : ℕ) : Type 0 where
   printed : IsWritten file before.shelf after.shelf
       → Prints text status before.sink after.sink result

@@ -1,4 +1,5 @@
--- `diff`: the CMC(l:c) difference of two columns under a light, and its verdict where there is a tolerance.
+-- `diff`: the CMC(l:c) difference of two columns under a light, and its verdict where there is a
+-- tolerance.
 use Rattle.std.specs.Prelude.{ℕ, List, [], ◌∷◌, ◌++◌, ◌&&◌, codes, Option, Some, None, Result, Ok, option_map, if◌then◌else◌}
 use Rattle.interval_specs.specs.Ends.{Ends}
 use Rattle.cmc_specs.specs.Cmc.{cmc_at}
@@ -68,7 +69,8 @@ difference_report (Some t) e =
       recipes = None;
     }
 
--- the report, from the curves and the weights of the files: where both columns are missing, that of the standard is named
+-- the report, from the curves and the weights of the files: where both columns are missing, that of
+-- the standard is named
 unfoldable pub diff_report : DiffWords → Tables → Result Report Fault
 diff_report words tables = do
   standard ← curve_from words.curves words.standard tables.book

@@ -8,8 +8,9 @@ use Rattle.shelf_io.specs.View.{ShelfView}
 abbrev pub up_to_limit : ℕ → List ℕ → Option (List ℕ)
 up_to_limit limit bytes = if nat_le (length bytes) limit then Some bytes else None
 
--- a possible result of a read of the file with the name: where the files are known, the bytes of that file up to the limit,
--- and else any bytes up to the limit, or None
+-- a possible result of a read of the file with this name; where the files are known: all its bytes,
+-- or None where they are more than the limit, and no result is possible where there is no such
+-- file; else: any bytes up to the limit, or None
 pub record CanBeRead (contents : Option Contents) (name : List ℕ) (limit : ℕ) (bytes_read : Option (List ℕ)) : Type 0 where
   pub short : IfSome bytes_read (λ bytes. length bytes ≤ limit)
   pub known : IfSome contents (λ c. IsSomeAnd (c.file name) (λ bytes. bytes_read ≡ up_to_limit limit bytes))

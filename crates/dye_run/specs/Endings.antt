@@ -31,7 +31,8 @@ abbrev pub with_written : Option (List ℕ × List ℕ) → Option Contents → 
 with_written None contents = contents
 with_written (Some file) contents = option_map (write_bytes file.0 file.1) contents
 
--- the sink took exactly this text and counted no failure, and only this file was written, or none where there is none
+-- the sink took exactly this text and counted no failure, and only this file was written, or none
+-- where there is none
 pub record Leaves (before after : World) (text : List ℕ) (written : Option (List ℕ × List ℕ)) : Type 0 where
   pub taken : after.sink.taken ≡ append_known before.sink.taken text
   pub counted : after.sink.faults ≡ before.sink.faults
@@ -43,7 +44,8 @@ pub record LeavesPrefix (before after : World) (text : List ℕ) (written : Opti
   pub counted : CountsFailure true before.sink.faults after.sink.faults
   pub contents : after.shelf.contents ≡ with_written written before.shelf.contents
 
--- a job whose recipes can be searched: they are a lawful landscape, and the budget is at most 1,000,000
+-- a job whose recipes can be searched: they are a lawful landscape, and the budget is at most
+-- 1,000,000
 pub record IsSearchable (r : ResolvedJob) : Type 0 where
   pub lawful : IsLawful (recipe_land r)
   pub budget : r.job.head.budget ≤ 1000000
@@ -56,13 +58,14 @@ IsSearched (refused fault) = Unit {0}
 IsSearched (reported report) = IfSome report.recipes IsSearchable
 IsSearched (not_written name) = Unit {0}
 
--- the sink took exactly this text and counted no failure; or a put failed, and it took only a prefix of the text
+-- the sink took exactly this text and counted no failure; or a put failed, and it took only a
+-- prefix of the text
 pub data IsPut (text : List ℕ) (before after : SinkView) : Type 0 where
   whole : after.taken ≡ append_known before.taken text → after.faults ≡ before.faults → IsPut text before after
   cut : AddsPrefix before.taken after.taken text → CountsFailure true before.faults after.faults → IsPut text before after
 
--- a write of the name failed, and it had not been promised that these bytes can be written: nothing changed, or the name
--- holds a prefix of them
+-- a write of the name failed, and it had not been promised that these bytes can be written: nothing
+-- changed, or the name holds a prefix of them
 pub record FailsToWrite (before after : ShelfView) (name bytes : List ℕ) : Type 0 where
   pub rose : IsRaised (before.write_faults name) (after.write_faults name)
   pub unpromised : IsTrue (before.writes_promised name (length bytes)) → ⊥
@@ -73,22 +76,25 @@ pub record IsUnreadable (asking : Asking) (before after : ShelfView) (name : Lis
   pub due : IsDue before.contents asking name
   pub failed : FailsToRead before after name
 
--- the outcome of the call: the one over the bytes that were read, or that a due file could not be read
+-- the outcome of the call: the one over the bytes that were read, or that a due file could not be
+-- read
 abbrev pub Reaches : Asking → (before after : ShelfView) → Outcome → Type 0
 Reaches asking before after o =
     Answers before.contents asking o
     ⊎ ((name : List ℕ) × IsUnreadable asking before after name × (o ≡ unreadable name))
 
--- the status where a put or a write failed, and that where memory ran out
+-- the status where a put or a write failed
 abbrev pub not_written_status : ℕ
 not_written_status = 4
 
+-- the status where memory ran out
 abbrev pub out_of_memory_status : ℕ
 out_of_memory_status = 10
 
--- How a call ends: it wrote its file, if it has one, and printed the whole outcome; or a put, which was not promised to
--- succeed, failed, and the sink took a prefix of the outcome's text; or the file could not be written, and only a text that
--- says so was to be printed; or memory ran out for a command, and nothing was written or printed
+-- How a call ends: it wrote its file, if it has one, and printed the whole outcome; or a put, which
+-- was not promised to succeed, failed, and the sink took a prefix of the outcome's text; or the
+-- file could not be written, and only a text that says so was to be printed; or memory ran out for
+-- a command, and nothing was written or printed
 pub data Ended (form : Option Form) (before after : World) (status : ℕ) : Type 0 where
   spoke : (o : Outcome)
       → Reaches (asking_for form) before.shelf after.shelf o
@@ -114,13 +120,15 @@ pub data Ended (form : Option Form) (before after : World) (status : ℕ) : Type
       → Leaves before after [] None
       → Ended form before after status
 
--- due files were read, and then, where the command writes a file, only the file with that name was written
+-- due files were read, and then, where the command writes a file, only the file with that name was
+-- written
 abbrev pub ChangesFiles : (names : List ℕ → Type 0) → Option (List ℕ) → (before after : ShelfView) → Type 0
 ChangesFiles names None before after = OnlyReads names before after
 ChangesFiles names (Some name) before after = (mid : ShelfView) × OnlyReads names before mid × ((size : ℕ) × OnlyWrites name size mid after)
 
--- What a call changes: the shelf by reads of due files, of each at most one byte more than its limit, and by writes of the
--- file that the command writes; and the sink's count of failures does not fall
+-- What a call changes: the shelf by reads of due files, of each at most one byte more than its
+-- limit each time that it is due, and by writes of the file that the command writes; and the sink's
+-- count of failures does not fall
 pub record Changes (form : Option Form) (before after : World) : Type 0 where
   pub effect : ChangesFiles (IsDue before.shelf.contents (asking_for form)) (written_by form) before.shelf after.shelf
   pub taken : (n : List ℕ) → MayTake before.shelf.contents (asking_for form) n (after.shelf.handed n - before.shelf.handed n)

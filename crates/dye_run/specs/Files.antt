@@ -3,7 +3,7 @@ use Rattle.std.specs.Prelude.{◌≡◌, ◌≤◌, ℕ, All, IfSome, length}
 use Rattle.std.specs.Option.{ForSome}
 use Rattle.dye_run.specs.declared.jobs.FilesRead.{FilesRead}
 
--- a weights file for each of the lights, and every file up to its limit
+-- an entry for the weights file of each light; bytes that were kept of a file are within its limit
 pub record FitsFiles (lights : ℕ) (bytes_read : FilesRead) : Type 0 where
   pub curves : ForSome bytes_read.curves (λ bytes. length bytes.items ≤ 1000000)
   pub count : length bytes_read.weights.items ≡ lights

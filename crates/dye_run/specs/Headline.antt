@@ -1,5 +1,5 @@
--- What a command that searches or checks claims about the recipes of a job, in terms of the recipes: the plain list of them,
--- their prices, limits and verdicts.
+-- What a command that searches or checks claims about the recipes of a job, in terms of the
+-- recipes: the plain list of them, their costs, limits and verdicts.
 use Rattle.std.specs.Prelude.{◌≡◌, ◌⊎◌, ◌*◌, ◌<◌, ℕ, List, length, map, Option, Some, Ok}
 use Rattle.std.specs.Io.KnownBytes.{append_known}
 use Rattle.std.specs.List.{AllZip}
@@ -34,8 +34,8 @@ use Rattle.dye_run.specs.Search.{conclusion_of, matched_values}
 use Rattle.dye_run.specs.Show.{recipe_values}
 use Rattle.dye_run.specs.Words.{CertWords}
 
--- a job is that of the files: it is resolved from the bytes read from the file with this name, from its curve file and from the
--- weights files of its lights
+-- a job is that of the files: it is resolved from the bytes read from the file with this name, from
+-- its curve file and from the weights files of its lights
 pub record IsJobOfFiles (contents : Option Contents) (rule : BatchRule) (name : List ℕ) (r : ResolvedJob) : Type 0 where
   pub job_bytes : Option (List ℕ)
   pub values : Values
@@ -55,10 +55,12 @@ CheckAccepts contents words job claim =
     (c : Contents) → contents ≡ Some c → result_of c.file (asking_of (check words)) ≡ Ok (reported (accepted_report job claim))
 
 -- A search ended with this status: 0 with a match, 5 with none, 6 with a floor.
--- `holds`: the match is the first recipe of the plain list, by price and then by steps, that keeps the limits and passes; or
--- there is none; or the budget did not suffice, and every recipe that keeps the limits and passes costs at least the floor.
--- `means`: every recipe that keeps the limits and comes before the match (or costs less than the floor, or is any, where there
--- is no match) fails or is listed, and each listed one keeps the limits and is undecided.
+-- `holds`: the match is the first recipe of the plain list, by cost and then by steps, that keeps
+-- the limits and passes; or there is none; or the budget did not suffice, and every recipe that
+-- keeps the limits and passes costs at least the floor.
+-- `means`: a recipe that keeps the limits fails or is listed: under a match each one before it,
+-- under no match each one, under a floor each one that costs less. Each listed recipe keeps the
+-- limits and is undecided.
 -- The report and the certificate are printed and written, and `check` accepts the certificate
 pub record Finds (rule : BatchRule) (words : CertWords) (before after : World) (status : ℕ) : Type 0 where
   pub job : ResolvedJob
@@ -74,7 +76,8 @@ pub record Finds (rule : BatchRule) (words : CertWords) (before after : World) (
   pub written : after.shelf.contents ≡ with_written (Some (words.cert, cert_text (record { claim = claim; listed = listed; lines = lines }))) before.shelf.contents
   pub checked : CheckAccepts after.shelf.contents words job claim
 
--- A check accepted the certificate that a file spells: it is valid, and what it claims of the plain list of recipes holds
+-- A check accepted the certificate that a file spells: it is valid, and what it claims of the plain
+-- list of recipes holds
 pub record Confirms (words : CertWords) (before after : World) : Type 0 where
   pub job : ResolvedJob
   pub cert : Content
@@ -86,7 +89,8 @@ pub record Confirms (words : CertWords) (before after : World) : Type 0 where
   pub means : Means (recipe_land job) cert.listed cert.claim
   pub printed : after.sink.taken ≡ append_known before.sink.taken (accepted_text cert.claim)
 
--- A summary of the search among the recipes of the generated job of a number, whose certificate is valid
+-- A summary of the search among the recipes of the generated job of a number, whose certificate is
+-- valid
 pub record Summarises (number : ℕ) (before after : World) (status : ℕ) : Type 0 where
   pub claim : Claim
   pub listed : List (List ℕ)
@@ -99,14 +103,14 @@ pub record Summarises (number : ℕ) (before after : World) (status : ℕ) : Typ
   pub printed : after.sink.taken ≡ append_known before.sink.taken (demo_text number claim (length listed) (length lines) boxes (matched_cost (demo_job number) claim))
 
 -- the statuses of a search that ended
-abbrev pub IsFoundStatus : ℕ → Type 0
-IsFoundStatus status = (status ≡ 0) ⊎ ((status ≡ 5) ⊎ (status ≡ 6))
+abbrev pub IsSearchStatus : ℕ → Type 0
+IsSearchStatus status = (status ≡ 0) ⊎ ((status ≡ 5) ⊎ (status ≡ 6))
 
--- what the status of a command that searches or checks means for the recipes.
--- `finer`: the differences that are printed of a recipe enclose those at every finer scale
+-- What the status of a command that searches or checks means for the recipes. `finer`: the
+-- differences that are printed of a recipe enclose those at every finer scale m * 10^12
 pub record SaysOfRecipes (form : Option Form) (before after : World) (status : ℕ) : Type 0 where
-  pub predicts : (words : CertWords) → form ≡ Some (predict words) → IsFoundStatus status → Finds Without words before after status
-  pub corrects : (words : CertWords) → form ≡ Some (correct words) → IsFoundStatus status → Finds With words before after status
+  pub predicts : (words : CertWords) → form ≡ Some (predict words) → IsSearchStatus status → Finds Without words before after status
+  pub corrects : (words : CertWords) → form ≡ Some (correct words) → IsSearchStatus status → Finds With words before after status
   pub checks : (words : CertWords) → form ≡ Some (check words) → status ≡ 0 → Confirms words before after
-  pub summarises : (number : ℕ) → form ≡ Some (demo number) → IsFoundStatus status → Summarises number before after status
+  pub summarises : (number : ℕ) → form ≡ Some (demo number) → IsSearchStatus status → Summarises number before after status
   pub finer : (job : ResolvedJob) (recipe : List ℕ) (m : ℕ) → 0 < m → AllZip (Encloses m) (recipe_values job recipe).deltas (differences_at (m * base_unit) job recipe recipe)

@@ -1,4 +1,4 @@
--- The files of a command: a curve file, or a curve file and a weights file.
+-- The files of a command without a job: a curve file, or a curve file and a weights file.
 use Rattle.std.specs.Prelude.{ℕ, List, Option, Some, None, Result, Ok, Err}
 use Rattle.spectral_tables.specs.CurveBook.{Book, curve_named}
 use Rattle.spectral_tables.specs.CurveFile.{curve_table_of}

@@ -44,7 +44,8 @@ pub record JobTables : Type 0 where
   pub book : Book
   pub weights : List WeightTable
 
--- both, from the bytes read: a fault of the curves is named before those of the weights in their order
+-- both, from the bytes read: a fault of the curves is named before those of the weights in their
+-- order
 unfoldable pub job_tables_from : Values → Option (List ℕ) → List (Option (List ℕ)) → Result JobTables Fault
 job_tables_from j curves_bytes weights_bytes = do
   book ← table_from curve_table_of j.head.curves curves_bytes
@@ -56,7 +57,8 @@ unfoldable pub asks_each : List (List ℕ) → (List (Option (List ℕ)) → Ask
 asks_each [] next = next []
 asks_each (name ∷ names) next = asks name table_limit (λ first. asks_each names (λ bytes_read. next (first ∷ bytes_read)))
 
--- the curve file of a job is due and then its weights files, and the rest of the command is given the bytes read
+-- the curve file of a job is due and then its weights files, and the rest of the command is given
+-- the bytes read
 abbrev pub asks_job_files : Values → (Option (List ℕ) → List (Option (List ℕ)) → Asking) → Asking
 asks_job_files j next = asks j.head.curves table_limit (λ curves_bytes. asks_each (light_files j) (next curves_bytes))
 
@@ -72,11 +74,12 @@ abbrev pub unless_faulty_job : Result Values Fault → (Values → Asking) → A
 unless_faulty_job (Ok j) next = next j
 unless_faulty_job (Err fault) next = answers (refused fault)
 
--- a job is due, and judged by itself when it has been read; the rest is asked for only where it is accepted
+-- a job is due, and judged by itself when it has been read; the rest is asked for only where it is
+-- accepted
 abbrev pub asks_accepted : BatchRule → List ℕ → (Values → Asking) → Asking
 asks_accepted rule name next = asks name job_limit (λ bytes_read. unless_faulty_job (job_from rule name bytes_read) next)
 
--- a job is due and then its tables, and the job resolved over them is judged
+-- a job is due, and where it has no fault its tables; the job resolved over them is judged
 abbrev pub asks_job : BatchRule → List ℕ → (ResolvedJob → Result Report Fault) → Asking
 asks_job rule name judged = asks_accepted rule name (λ j. asks_job_tables j (λ tables. resolved_from name j tables >>= judged))
 
@@ -110,6 +113,7 @@ asks_cert_tables j cert judged =
 abbrev pub resolved_then : List ℕ → Values → (ResolvedJob → List ℕ → Result Report Fault) → CertTables → Result Report Fault
 resolved_then name j judged t = resolved_from name j t.tables >>= (λ r. judged r t.text)
 
--- a job is due, then its tables and then a certificate, and the resolved job is judged with the certificate
+-- a job is due, and where it has no fault its tables and then a certificate; the resolved job is
+-- judged with the certificate
 abbrev pub asks_cert : BatchRule → (name cert : List ℕ) → (ResolvedJob → List ℕ → Result Report Fault) → Asking
 asks_cert rule name cert judged = asks_accepted rule name (λ j. asks_cert_tables j cert (resolved_then name j judged))

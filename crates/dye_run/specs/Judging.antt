@@ -37,8 +37,8 @@ stop_outcome stop.Memory = None
 abbrev pub Refuses : {Y : Type 0} → Stop → Result Y Fault → Type 0
 Refuses why step = IfSome (stop_outcome why) (λ o. (fault : Fault) × (o ≡ refused fault) × (step ≡ Err fault))
 
--- the value of a step, through `view`, is that of its definition, or the step refuses as its definition does, unless memory
--- ran out
+-- the value of a step, through `view`, is that of its definition, or the step refuses as its
+-- definition does, unless memory ran out
 abbrev pub Gives : {X Y : Type 0} → (X → Y) → Result X Stop → Result Y Fault → Type 0
 Gives view (Ok x) step = step ≡ Ok (view x)
 Gives view (Err why) step = Refuses why step
@@ -47,8 +47,8 @@ Gives view (Err why) step = Refuses why step
 abbrev pub file_view : Option Written → Option (List ℕ × List ℕ)
 file_view written = option_map (λ file. (file.name.text.now, cert_text (content file.cert))) written
 
--- the report has the conclusion, the text and the file of its definition, and the recipes that it reports on, if any, can be
--- searched
+-- the report has the conclusion, the text and the file of its definition, and the recipes that it
+-- reports on, if any, can be searched
 pub record Matches (report : Report) (defined : spec.Report) : Type 0 where
   pub conclusion : report.conclusion ≡ defined.conclusion
   pub text : report.text.items ≡ defined.text
@@ -73,8 +73,8 @@ pub record StopsHaving (asking : Asking) (before after : ShelfView) (why : Stop)
   pub stops : Stops asking before after why
   pub reads : ReadsDue asking before after
 
--- the first due files have been read: what holds for the rest of the command from now on holds for the whole command from
--- before on
+-- the first due files have been read: what holds for the rest of the command from now on holds for
+-- the whole command from before on
 pub record GoesOn (asking rest : Asking) (before now : ShelfView) : Type 0 where
   pub answers : (o : Outcome) → Answers now.contents rest o → Answers before.contents asking o
   pub due : (name : List ℕ) → IsDue now.contents rest name → IsDue before.contents asking name
@@ -82,7 +82,8 @@ pub record GoesOn (asking rest : Asking) (before now : ShelfView) : Type 0 where
   pub grows : (name : List ℕ) → before.read_faults name ≤ now.read_faults name
   pub kept : (name : List ℕ) → IsTrue (before.reads_promised name) → IsTrue (now.reads_promised name)
 
--- the input was made from the due reads, so that its judgement is the outcome; or the command stopped
+-- the input was made from the due reads, so that its judgement is the outcome; or the command
+-- stopped
 abbrev pub IsInput : {X : Type 0} → Asking → (X → Result spec.Report Fault) → (before after : ShelfView) → Result X Stop → Type 0
 IsInput asking judged before after (Ok x) = Answers before.contents asking (outcome_of (judged x))
 IsInput asking judged before after (Err why) = Stops asking before after why

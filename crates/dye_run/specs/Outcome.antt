@@ -13,9 +13,9 @@ use Rattle.dye_run.specs.declared.statuses.Conclusion.{Conclusion}
 use Rattle.dye_run.specs.declared.statuses.Conclusion.TheVariants.{BudgetEnded, Found, Judged, NoVerdict, NoneFound}
 use Rattle.metamerism.specs.declared.outcomes.Verdict.TheVariants.{Fail, Pass, Undecided}
 
--- why there is no report over files that were read: one has more bytes than its limit, a table or a job breaks a rule, or a
--- column is missing; or the steps are no recipe of the grid, or one that breaks a limit; or a certificate breaks a rule of
--- its grammar, or is not valid, and where
+-- why there is no report over files that were read: one has more bytes than its limit, a table or a
+-- job breaks a rule, or a column is missing; or the steps are no recipe of the grid, or one that
+-- breaks a limit; or a certificate breaks a rule of its grammar, or is not valid, and where
 pub data Fault : Type 0 where
   too_long : (name : List ℕ) → Fault
   table : (name : List ℕ) → TableFault → Fault
@@ -25,8 +25,8 @@ pub data Fault : Type 0 where
   grammar : CertFault → Fault
   invalid : (line : ℕ) → Why → Fault
 
--- the words have no listed form; a due file could not be read; what was read is refused; a report; or the file of a report
--- could not be written
+-- the words have no listed form; a due file could not be read; what was read is refused; a report;
+-- or the file of a report could not be written
 pub data Outcome : Type 0 where
   usage : Outcome
   unreadable : (name : List ℕ) → Outcome
@@ -44,7 +44,7 @@ conclusion_status Found = 0
 conclusion_status NoneFound = 5
 conclusion_status BudgetEnded = 6
 
--- the status of a fault: those of steps and of certificates have their own
+-- the status of a fault: 11 for steps, 7 for a certificate that was read, and 3 for all others
 abbrev pub fault_status : Fault → ℕ
 fault_status (too_long name) = 3
 fault_status (table name fault) = 3

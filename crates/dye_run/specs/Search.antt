@@ -1,4 +1,5 @@
--- `predict` and `correct`: the first recipe of a job that passes, with the certificate that shows it.
+-- `predict` and `correct`: the first recipe of a job that keeps the limits and passes, with the
+-- certificate that shows it.
 use Rattle.std.specs.Prelude.{ℕ, List, [], ◌++◌, flat_map, map, Option, Some, None, Result, Ok}
 use Rattle.box_cert.specs.Spelling.{cert_text}
 use Rattle.box_search.specs.Result.{SearchResult, search_result}

@@ -21,7 +21,8 @@ pub data Kind : Type 0 where
   out_of_memory : Kind
   nothing : Kind
 
--- 0, 5, 6, 8 and 9 belong to a report, 3, 7 and 11 to a refusal, and each of the other statuses is of a kind of its own
+-- 0, 5, 6, 8 and 9 belong to a report, 3, 7 and 11 to a refusal, and 1, 2, 4 and 10 are each of a
+-- kind of their own; every other number is of the kind `nothing`
 abbrev pub kind_of : ℕ → Kind
 kind_of status =
     if (status == 0) || (status == 5) || (status == 6) || (status == 8) || (status == 9) then report
@@ -33,7 +34,9 @@ kind_of status =
     else nothing)))))
 
 module _ (form : Option Form) (before after : World) where
-  -- the report of the command. Each enclosure in it holds those of every finer scale, and each verdict is true there
+  -- the report of the command. At every finer scale m * 10^12 each enclosure is within the printed
+  -- one, and a difference that passes or fails still does; one that is undecided may be decided
+  -- there
   pub record IsReport (result : ℕ) : Type 0 where
     pub report : Report
     pub answers : Answers before.shelf.contents (asking_for form) (reported report)
@@ -60,8 +63,8 @@ module _ (form : Option Form) (before after : World) where
     pub answers : Answers before.shelf.contents (asking_for form) (refused fault)
     pub leaves : Leaves before after (text_of (refused fault)) None
 
-  -- a put failed, and the sink took a prefix of what was to be printed; or the file of the report could not be written, and
-  -- a text that says so was to be printed
+  -- a put failed, and the sink took a prefix of what was to be printed; or the file of the report
+  -- could not be written, and a text that says so was to be printed
   pub data IsNotWritten : Type 0 where
     put_failed : (o : Outcome) → Reaches (asking_for form) before.shelf after.shelf o → LeavesPrefix before after (text_of o) (written_of o) → IsNotWritten
     file_failed : (r : Report) (name bytes : List ℕ)
@@ -76,7 +79,7 @@ module _ (form : Option Form) (before after : World) where
     pub has_form : IsSome form
     pub leaves : Leaves before after [] None
 
-  -- what each kind means for the call; a status of no kind is never returned
+  -- what each kind means for the call; a status of the kind `nothing` is never returned
   abbrev pub Tells : Kind → ℕ → Type 0
   Tells report status = IsReport status
   Tells usage status = IsUsage
@@ -95,8 +98,8 @@ module _ (form : Option Form) (before after : World) where
   abbrev pub IsPrinted : Outcome → ℕ → Type 0
   IsPrinted o status = (status ≡ out_of_memory_status) ⊎ ((status ≡ status_of o) × Leaves before after (text_of o) (written_of o))
 
-  -- Where the files are known and determine an outcome, and no failure of a due read, of the write or of a put was counted in
-  -- the call, the call prints the outcome
+  -- Where the files are known and determine an outcome, and no failure of a due read, of the write
+  -- or of a put was counted in the call, the call writes and prints the outcome, or ends with 10
   abbrev pub IsComplete : ℕ → Type 0
   IsComplete status =
       (c : Contents) (o : Outcome) → before.shelf.contents ≡ Some c
@@ -106,8 +109,9 @@ module _ (form : Option Form) (before after : World) where
       → (IsRaised before.sink.faults after.sink.faults → ⊥)
       → IsPrinted o status
 
-  -- Where the files are known and determine an outcome, and reads of the due names, writes of its file and puts of its text are
-  -- promised to succeed, the call prints the outcome and the sink counts no failure
+  -- Where the files are known and determine an outcome, and reads of the due names, writes of its
+  -- file and puts of its text are promised to succeed, the call writes and prints the outcome, or
+  -- ends with 10; and the sink counts no failure
   abbrev pub IsReliable : ℕ → Type 0
   IsReliable status =
       (c : Contents) (o : Outcome) → before.shelf.contents ≡ Some c

@@ -42,7 +42,8 @@ pub(crate) struct WithCert {
     pub ghost short: { length text.items ≤ 64000000 },
 }
 
-/// The text of a certificate, from the bytes that were read, or `None` where it is too long.
+/// The text of a certificate, from the bytes that were read. These are `None` where the file has
+/// more bytes than its limit, which is refused.
 fn text_from<'a>(cert: &'a str, bytes_read: Option<Vec<u8>>) -> Result<Vec<u8>, Stop<'a>>
     ensures is { Gives (λ t. t.items) result
         (unless_too_long cert.now (option_map (λ b. b.items) bytes_read)) }
@@ -121,7 +122,8 @@ fn with_cert<'a>(
     Ok(WithCert { resolved, text })
 }
 
-/// Reads a job, its tables and a certificate, which are all due, and resolves the job.
+/// Reads a job, which is due, and where it has no fault its tables and a certificate, which are
+/// then due; and resolves the job over its tables.
 pub(crate) fn read_with_cert<'a, H: Shelf>(
     alloc: Global,
     shelf: &mut H,

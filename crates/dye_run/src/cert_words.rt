@@ -7,7 +7,7 @@ ghost use Rattle.dye_run.specs.Words.{cert_words};
 use crate::file_name::FileName;
 use crate::words::{names_cert, names_job};
 
-/// JOB CERT.
+/// The words JOB CERT: a job and a certificate.
 #[derive(Clone, Copy)]
 pub(crate) struct CertWords<'a> {
     pub job: &'a str,

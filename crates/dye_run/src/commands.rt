@@ -1,5 +1,5 @@
-//! A file for each command: its words, its due files, and its report, which is computed before it
-//! is printed.
+//! The commands: their words, their due files, and their reports, which are computed before they
+//! are printed. What several of them share is beside this folder.
 
 pub(crate) mod check;
 pub(crate) mod demo;

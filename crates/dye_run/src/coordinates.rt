@@ -22,7 +22,7 @@ pub(crate) trait Coordinates: Copy {
     // the chosen coordinates, each with its label
     ghost evaluations: { Self → WeightTable → List ℕ → List Evaluation };
 
-    /// A line for each of them.
+    /// The text that reports the coordinates: a line for each.
     fn text(self, alloc: Global, weights: &Weights, curve: &Curve) -> Result<Vec<u8>, AllocError>
         ensures { IfOk result (λ text.
             text.items ≡ lines_of (evaluations self weights.now curve.now)) };

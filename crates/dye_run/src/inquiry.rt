@@ -13,7 +13,8 @@ use std::alloc::Global;
 
 /// The words of a command: which files they ask for, and what they report about those files.
 pub(crate) trait Inquiry<'a>: Copy {
-    /// The data that its due files are made into.
+    /// The data that its report is computed from: what its due files are made into, or what is
+    /// generated.
     type Input: Drop;
 
     // the reads that the words ask for, and the outcome

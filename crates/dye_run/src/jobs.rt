@@ -35,7 +35,8 @@ pub(crate) struct JobTables {
     pub weights: Vec<Weights>,
 }
 
-/// The job of a file, from the bytes that were read, or `None` where it is too long.
+/// The job of a file, from the bytes that were read. These are `None` where the file has more bytes
+/// than its limit, which is refused.
 #[tactic(auto, unfolding(crate::specs::Jobs::job_from))]
 pub(crate) fn job_from<'a>(
     alloc: Global,
@@ -189,7 +190,8 @@ pub(crate) fn resolved_from<'a>(
     }
 }
 
-/// Reads a job and its tables, which are due, and resolves the job.
+/// Reads a job, which is due, and where it has no fault its tables, which are then due; and
+/// resolves the job over them.
 pub(crate) fn read_resolved<'a, H: Shelf>(
     alloc: Global,
     shelf: &mut H,

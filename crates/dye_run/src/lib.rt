@@ -1,5 +1,5 @@
 //! All that the program `dye` does, from the words of its command line to its status: one public
-//! call, generic over the shelf that it reads and the sink that it writes to.
+//! call, generic over the shelf that it reads and writes, and the sink that it prints to.
 #![tactic(auto)]
 
 mod cert_files;

@@ -50,7 +50,8 @@ pub(crate) fn shown_of(land: &RecipeLand, steps: Steps) -> Shown
     }
 }
 
-/// The budget of boxes of a job, whose recipes can be searched within it.
+/// The budget of boxes of a job, 1 to 1,000,000. By its contract a search with this budget can
+/// begin among the recipes of the job; it may end before there is an answer.
 pub(crate) fn budget_of(land: &RecipeLand) -> u32
     ensures is { result ≡ land.now.job.head.budget }
     ensures some { 1 ≤ result }

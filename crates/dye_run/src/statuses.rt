@@ -1,4 +1,4 @@
-//! Each status of the program, once.
+//! The statuses that `run` returns, each once.
 
 ghost use Rattle.std.specs.Prelude.{◌≡◌};
 ghost use Rattle.dye_run.specs.Outcome.{conclusion_status, refusal_outcome, status_of};
@@ -15,7 +15,7 @@ pub(crate) enum Conclusion {
     Judged(Verdict),
     /// A recipe was found.
     Found,
-    /// There is no recipe to find.
+    /// No recipe keeps the limits and passes.
     NoneFound,
     /// The budget of boxes was used up first.
     BudgetEnded,

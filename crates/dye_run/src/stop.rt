@@ -11,7 +11,7 @@ use shade_report::Refusal;
 use spectral_tables::TableFault;
 use std::alloc::{AllocError, AllocFailed, Global};
 
-/// A refusal that owns its texts, for file names that were read from a job.
+/// A refusal that owns its texts, so that it can outlive the job that some of them are part of.
 #[derive(Drop)]
 pub(crate) enum OwnedRefusal {
     Usage,
@@ -53,7 +53,7 @@ impl OwnedRefusal {
         })
     }
 
-    /// The refusal.
+    /// The refusal, with its names borrowed.
     fn refusal(&self) -> Refusal<'_>
         ensures { refusal_outcome result ≡ owned_outcome self.now }
     {
@@ -77,9 +77,9 @@ impl OwnedRefusal {
 /// Why a command has no report.
 #[derive(Drop)]
 pub(crate) enum Stop<'a> {
-    /// The words, or a file that they name, are refused.
+    /// A refusal whose names are borrowed: from the words, or from a job that is still in memory.
     Refused(Refusal<'a>),
-    /// A file that a job names is refused.
+    /// A refusal that owns its names: of a table or a certificate that is due after a job.
     Owned(OwnedRefusal),
     /// Memory ran out.
     Memory,
@@ -97,7 +97,8 @@ impl Stop<'_> {
         }
     }
 
-    /// The same, with copies of the names, which need not outlive the job that they are part of.
+    /// The same refusal with copies of its names, so that it can outlive the job that they are part
+    /// of; or `Memory`, where there is no memory for the copies.
     pub(crate) fn owned<'a>(self, alloc: Global) -> Stop<'a>
         ensures { (stop_outcome result ≡ stop_outcome self.entry) ⊎ (stop_outcome result ≡ None) }
     {

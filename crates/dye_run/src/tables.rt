@@ -49,7 +49,8 @@ impl Table for Weights {
     }
 }
 
-/// The table of a file, from the bytes that were read, or `None` where it is too long.
+/// The table of a file, from the bytes that were read. These are `None` where the file has more
+/// bytes than its limit, which is refused.
 #[tactic(auto, unfolding(crate::specs::Inputs::table_from))]
 pub(crate) fn table_from<'a, T: Table>(
     alloc: Global,

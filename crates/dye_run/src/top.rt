@@ -46,7 +46,7 @@ fn status_after(put: Result<(), Failed>, status: u8) -> u8
     }
 }
 
-// Prints a text, and returns its status.
+// Puts a text, and returns its status, or that of a failed put.
 fn print<O: Sink>(text: &[u8], status: u8, out: &mut O) -> u8
     ensures { Prints text.now status (O.view out.old) (O.view out.new) result }
 {
@@ -54,7 +54,8 @@ fn print<O: Sink>(text: &[u8], status: u8, out: &mut O) -> u8
     status_after(put, status)
 }
 
-// Prints a refusal, and returns its status. It allocates no memory.
+// Puts the text of a refusal, and returns its status, or that of a failed put. It allocates no
+// memory.
 fn refuse<O: Sink>(refusal: &Refusal, out: &mut O) -> u8
     ensures { Prints (text_of (refusal_outcome refusal.now))
         (status_of (refusal_outcome refusal.now))
@@ -100,8 +101,8 @@ fn speak<H: Shelf, O: Sink>(alloc: Global, words: &[String], shelf: &mut H, out:
 }
 
 /// All that the program does: it reads the words of its command line, reads the due files from the
-/// shelf, writes the certificate where there is one, puts the text into the sink, and returns the
-/// status.
+/// shelf, writes the certificate where the command makes one, puts the text into the sink, and
+/// returns the status.
 pub fn run<H: Shelf, O: Sink>(alloc: Global, words: &[String], shelf: &mut H, out: &mut O) -> u8
     // How the call ended, and what its status means.
     ensures ended { Ended (form_of (map string_bytes words.now))
@@ -111,7 +112,8 @@ pub fn run<H: Shelf, O: Sink>(alloc: Global, words: &[String], shelf: &mut H, ou
         (world (H.view shelf.old) (O.view out.old))
         (world (H.view shelf.new) (O.view out.new)) result }
 
-    // Where nothing fails, the outcome is printed.
+    // Over a shelf whose files are known: where nothing fails, the outcome is written and printed,
+    // unless memory runs out.
     ensures complete { IsComplete (form_of (map string_bytes words.now))
         (world (H.view shelf.old) (O.view out.old))
         (world (H.view shelf.new) (O.view out.new)) result }

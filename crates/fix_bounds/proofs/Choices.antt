@@ -1,4 +1,5 @@
--- Which of the results at the ends is the least or the greatest, and that products of ends have room.
+-- Which of the results at the ends is the least or the greatest, and that products of ends have
+-- room.
 use Rattle.std.proofs.Common.{ℕ, ℤ, pos, true, false, ◌≡◌, ◌*◌, ◌≤◌, ◌^◌, ◌∙◌, ◌*ℤ◌, ◌≤ℤ◌, ◌<ℤ◌, FitsSigned, unsigned_abs, ap, sym, arith, le_trans, le_refl}
 use Rattle.std.proofs.lemmas.Int.{to_z-of_z, ints}
 use Rattle.std.specs.Int.{w128, int_min, int_max}

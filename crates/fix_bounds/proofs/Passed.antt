@@ -1,4 +1,5 @@
--- A signed value that code computes and passes on is stored as bits and read again: these lemmas say that it is unchanged.
+-- A signed value that code computes and passes on is stored as bits and read again: these lemmas
+-- say that it is unchanged.
 use Rattle.std.proofs.Common.{ℕ, ℤ, pos, arith, ◌≡◌, ◌<◌, ◌≤◌, ◌^◌, ◌∙◌, ap, subst, sym, ◌*ℤ◌, ◌+ℤ◌, ◌-ℤ◌, neg_ℤ, FitsSigned, unsigned_abs, lt_of_le_of_lt}
 use Rattle.std.proofs.lemmas.Int.{to_z-of_z, ints, fits_signed_from_abs}
 use Rattle.std.specs.Int.{w64, w128, int_min, int_max}

@@ -1,4 +1,4 @@
-//! The operations on intervals, each rounded outwards once.
+//! The operations on intervals. A result that is not exact is rounded outwards, once.
 ghost use Rattle.std.specs.Prelude.{◌≡◌, ℕ, pos, ◌+◌, ◌*◌, ◌^◌, ◌<◌, ◌≤◌, ◌<ℤ◌, unsigned_abs};
 ghost use Rattle.interval_specs.specs.Ends.{IsHeld, magnitude_of};
 ghost use Rattle.interval_specs.specs.Operations.{sum_of, difference_of, product_at, quotient_at, square_at, multiple_of, fraction_of, absolute_of, cut_low_at, cut_high_at, hull_of};

@@ -1,5 +1,5 @@
-//! The least and the greatest of the four results at the ends of two intervals, by as few steps as
-//! their signs allow.
+//! The least and the greatest product of the ends of two intervals, by two products where neither
+//! interval is below 0 and else by four, and of their quotients, by one division each.
 ghost use Rattle.std.specs.Prelude.{◌≡◌, ℕ, pos, ◌*◌, ◌^◌, ◌≤◌, ◌≤ℤ◌, ◌<ℤ◌, ◌*ℤ◌, unsigned_abs};
 ghost use Rattle.std.specs.Int.{int_min, int_max};
 ghost use Rattle.interval_specs.specs.Rounding.{floor_over, ceil_over};

@@ -1,5 +1,5 @@
-//! Interval arithmetic in 128-bit integers with outward rounding, at two scales: each operation
-//! rounds its lower end down and its upper end up, once.
+//! Interval arithmetic in 128-bit integers, at two scales. Where a result is rounded, its lower end
+//! is rounded down and its upper end up, once.
 #![tactic(auto)]
 
 mod arithmetic;

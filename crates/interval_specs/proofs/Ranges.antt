@@ -1,4 +1,5 @@
--- The range of each result, from the ranges of its inputs. The numbers k, j and r are bounds in units of the scale.
+-- The range of each result, from the ranges of its inputs. The numbers k, j and r are bounds in
+-- units of the scale.
 mod Words
 mod Sums
 mod Products

@@ -22,7 +22,8 @@ magnitude_of a = max (unsigned_abs a.lo) (unsigned_abs a.hi)
 abbrev pub IsOrdered : Ends → Type 0
 IsOrdered a = a.lo ≤ℤ a.hi
 
--- the invariant of the code's type of intervals: ends in order, and a magnitude that leaves room in 128 bits
+-- the invariant of the code's type of intervals: ends in order, and a magnitude that leaves room in
+-- 128 bits
 pub record IsHeld (a : Ends) : Type 0 where
   pub ordered : a.lo ≤ℤ a.hi
   pub small : magnitude_of a ≤ 10 ^ 25

@@ -1,12 +1,13 @@
--- The laws of the operations: each keeps enclosing where the scale grows from n to m * n and its inputs narrow.
--- The inputs are plain ends, and n and m any numbers.
+-- The laws of the operations: each keeps enclosing where the scale grows from n to m * n and its
+-- inputs narrow. The inputs are plain ends, and n and m any numbers, but for what a law asks of
+-- them.
 use Rattle.std.specs.Prelude.{ℕ, ℤ, pos, ◌*◌, ◌<◌, ◌<ℤ◌, ◌≤ℤ◌}
 use Rattle.interval_specs.specs.Ends.{Ends}
 use Rattle.interval_specs.specs.Encloses.{Encloses}
 use Rattle.interval_specs.specs.Roots.{sqrt_at, cbrt_at}
 use Rattle.interval_specs.specs.Operations.{ratio_at, sum_of, difference_of, product_at, quotient_at, square_at, multiple_of, fraction_of, absolute_of, cut_low_at, cut_high_at, hull_of}
 
--- of a ratio by any divisor; where it is 0, both ends depend only on the sign of p
+-- of a ratio by any divisor; by 0 its ends depend only on the sign of p
 abbrev pub RatioEncloses : Type 0
 RatioEncloses = (n m : ℕ) (p : ℤ) (q : ℕ) → Encloses m (ratio_at n p q) (ratio_at (m * n) p q)
 
@@ -35,11 +36,11 @@ SquareEncloses = (n m : ℕ) (a a' : Ends) → 0 < n → 0 < m → Encloses m a 
 abbrev pub MultipleEncloses : Type 0
 MultipleEncloses = (m : ℕ) (k : ℤ) (a a' : Ends) → Encloses m a a' → Encloses m (multiple_of k a) (multiple_of k a')
 
--- of a multiple by a fraction, by any divisor
+-- of the multiple by num / den, for any den, 0 included
 abbrev pub FractionEncloses : Type 0
 FractionEncloses = (m num den : ℕ) (a a' : Ends) → Encloses m a a' → Encloses m (fraction_of num den a) (fraction_of num den a')
 
--- of the magnitude
+-- of the absolute value
 abbrev pub AbsoluteEncloses : Type 0
 AbsoluteEncloses = (m : ℕ) (a a' : Ends) → 0 < m → Encloses m a a' → Encloses m (absolute_of a) (absolute_of a')
 

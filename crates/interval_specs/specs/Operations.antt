@@ -1,5 +1,5 @@
--- The operations on intervals. Where a result is rounded, the lower end is rounded down and the upper end up, once.
--- They are stated at every scale n, over numbers without bound.
+-- The operations on intervals. Where a result is rounded, the lower end is rounded down and the
+-- upper end up, once. They are stated at every scale n, over numbers without bound.
 use Rattle.std.specs.Prelude.{ℕ, ℤ, pos, ◌*◌, ◌+ℤ◌, ◌-ℤ◌, ◌*ℤ◌, Bool, min, ◌&&◌, int_le, if◌then◌else◌, unsigned_abs}
 use Rattle.std.specs.Int.{int_min, int_max}
 use Rattle.interval_specs.specs.Ends.{Ends, magnitude_of}
@@ -45,7 +45,8 @@ quotient_down n x y = floor_over (x *ℤ pos n) (unsigned_abs y)
 abbrev pub quotient_up : ℕ → ℤ → ℤ → ℤ
 quotient_up n x y = ceil_over (x *ℤ pos n) (unsigned_abs y)
 
--- a / b at scale n, where b is above 0: the least and the greatest quotient of an end of a by an end of b
+-- a / b at scale n, where b is above 0: the least and the greatest quotient of an end of a by an
+-- end of b
 unfoldable pub quotient_at : ℕ → Ends → Ends → Ends
 quotient_at n a b =
     record {
@@ -57,11 +58,12 @@ quotient_at n a b =
 abbrev pub holds_zero : Ends → Bool
 holds_zero a = int_le a.lo (pos 0) && int_le (pos 0) a.hi
 
--- the least magnitude of a number between the ends: 0 where 0 lies between them, else the lesser of their magnitudes
+-- the least magnitude of a number between the ends: 0 where 0 lies between them, else the lesser of
+-- their magnitudes
 abbrev pub least_magnitude : Ends → ℕ
 least_magnitude a = if holds_zero a then 0 else (min (unsigned_abs a.lo) (unsigned_abs a.hi))
 
--- the magnitude of a
+-- the absolute value of a: from the least to the greatest magnitude of its numbers
 unfoldable pub absolute_of : Ends → Ends
 absolute_of a = record { lo = pos (least_magnitude a); hi = pos (magnitude_of a) }
 

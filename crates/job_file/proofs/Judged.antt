@@ -1,4 +1,5 @@
--- Reading judges by rules: the result is the value where all of them hold, and else the fault of the first that is broken.
+-- Reading judges by rules: the result is the value where all of them hold, and else the fault of
+-- the first that is broken.
 use Rattle.std.proofs.Common.{◌≡◌, ◌∙◌, ◌++◌, Bool, true, false, Option, Some, None, Result, Ok, Err, List, [], ◌∷◌, map, refl, ap, sym, append_assoc, append-nil, arith}
 use Rattle.std.specs.Prelude.{if◌then◌else◌}
 use Rattle.std.proofs.lemmas.List.{map-append}

@@ -7,7 +7,8 @@ use Rattle.job_file.specs.declared.fault.Place.{Place}
 use Rattle.job_file.specs.Faults.{◌>>=◌, ◌>>◌, ensure, or_fault}
 use Rattle.job_file.specs.Keys.{Entries, natural_in, or_else, required}
 
--- the items read so far, followed by the rest as they are read, and None where one of the rest is not of the kind
+-- the items read so far, followed by the rest as they are read, and None where one of the rest is
+-- not of the kind
 abbrev pub all_after : {A : Type 0} → (Data → Option A) → List A → Items → Option (List A)
 all_after kind before no_items = Some before
 all_after kind before (item value rest) = option_and_then (λ x. all_after kind (before ++ x ∷ []) rest) (kind value)

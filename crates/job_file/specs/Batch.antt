@@ -12,7 +12,8 @@ use Rattle.job_file.specs.Arrays.{array_in, naturals_after}
 use Rattle.job_file.specs.Faults.{◌>>=◌, ◌>>◌, ensure, or_fault}
 use Rattle.job_file.specs.Keys.{Entries, name, only_keys, required}
 
--- each number of steps is at most the `most` of its dye
+-- no dye has a number of steps above its `most`; a number without a dye passes, and so does a dye
+-- without a number
 abbrev pub are_within : List JobDye → List ℕ → Bool
 are_within [] steps = true
 are_within (d ∷ dyes) [] = true

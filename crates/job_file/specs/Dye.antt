@@ -17,8 +17,9 @@ use Rattle.job_file.specs.Keys.{Entries, name, only_keys, whole, whole_or}
 abbrev pub has_dye : List JobDye → List ℕ → Bool
 has_dye dyes text = list_any (λ d. bytes_eq d.name text) dyes
 
--- its keys: the name, the price of a unit and the fee, the units of a step, the least and the most steps, and the dyeings.
--- The least is not above the most, the most steps weigh at most 20,000 units, and no dye before it has its name
+-- its keys: the name, the price of a unit and the fee, the units of a step, the least and the most
+-- steps, and the dyeings. The least is not above the most, the most steps weigh at most 20,000
+-- units, and no dye before it has its name
 unfoldable pub dye : List JobDye → Entries → Result JobDye JobFault
 dye before t = do
   only_keys (codes "name" ∷ codes "price" ∷ codes "fee" ∷ codes "step" ∷ codes "least" ∷ codes "most" ∷ codes "dyeing" ∷ []) t

@@ -29,11 +29,12 @@ or_fault place rule (Some x) = Ok x
 abbrev pub ensure : Place → JobRule → Bool → Result (Unit {0}) JobFault
 ensure place rule holds = if holds then Ok tt else Err (fault_at place rule)
 
--- the result of a call, mapped by view, is what the definition reads, unless memory ran out
+-- a call that failed agrees with what the definition reads: the same fault, or memory ran out
 abbrev pub Fails : {Y : Type 0} → JobError → Result Y JobFault → Type 0
 Fails errors.Memory read = Unit {0}
 Fails (errors.Fault fault) read = read ≡ Err fault
 
+-- the result of a call, mapped by view, is what the definition reads, unless memory ran out
 abbrev pub Gives : {X Y : Type 0} → (X → Y) → Result X JobError → Result Y JobFault → Type 0
 Gives view (Ok x) read = read ≡ Ok (view x)
 Gives view (Err error) read = Fails error read

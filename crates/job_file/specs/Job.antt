@@ -33,7 +33,8 @@ pub record Values : Type 0 where
 abbrev pub job_place : Place
 job_place = record { part = Job; item = 0; sub = 0 }
 
--- the table of the whole job first, then its lights, its dyes with their dyeings, its pairs and its batch
+-- the table of the whole job first, then its lights, its dyes with their dyeings, its pairs and its
+-- batch
 unfoldable pub job_at : BatchRule → Entries → Result Values JobFault
 job_at rule t = do
   keys rule t

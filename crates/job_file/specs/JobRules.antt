@@ -12,7 +12,7 @@ use Rattle.job_file.specs.PartRules.{batch_rules, batch_value, dye_rules, dye_va
 use Rattle.job_file.specs.Rules.{Rule, rule_at}
 use Rattle.job_file.specs.Top.{needs_batch, takes_batch, version_of}
 
--- the texts and numbers of a job
+-- the keys of the texts and numbers of a job, without `version`
 unfoldable pub head_keys : List Key
 head_keys =
     must (codes "curves") a_file
@@ -25,7 +25,7 @@ head_keys =
     ∷ may (codes "budget") (a_whole 1 1000000)
     ∷ []
 
--- the parts of a job
+-- the keys of the parts of a job
 unfoldable pub part_keys : BatchRule → List Key
 part_keys rule =
     must (codes "light") (some_tables 1 2)
@@ -34,7 +34,8 @@ part_keys rule =
     ∷ record { name = codes "batch"; needed = needs_batch rule; kind = a_table }
     ∷ []
 
--- the defaults of absent keys: one kilogram, 12 dyes, 240,000 units, no ceiling of the cost and 100,000 boxes
+-- the defaults of absent keys: one kilogram, 12 dyes, 240,000 units, no ceiling of the cost and
+-- 100,000 boxes
 unfoldable pub head_value : Members → Head
 head_value members = record {
   curves = text_at (codes "curves") members;
@@ -61,7 +62,8 @@ job_value members = record {
 abbrev pub top_keys : BatchRule → List Key
 top_keys rule = head_keys ++ part_keys rule
 
--- the version is 1, and there are no unknown keys; `batch` is a known key where the rule takes a batch
+-- the version is 1, and there are no unknown keys (`batch` is a known key where the rule takes a
+-- batch); then the rules of each key
 abbrev pub top_rules : BatchRule → Members → List Rule
 top_rules rule members =
     rule_at job_place NotVersion1 (is_some (version_of members))

@@ -1,4 +1,4 @@
--- What holds of every value of the type of jobs.
+-- What holds of the lights and of the dyes of every job.
 use Rattle.std.specs.Prelude.{◌≤◌, List, All, length}
 use Rattle.job_file.specs.declared.dye.JobDye.{JobDye}
 use Rattle.job_file.specs.declared.light.JobLight.{JobLight}

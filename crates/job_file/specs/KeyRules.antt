@@ -24,7 +24,7 @@ passes test (Some x) = test x
 abbrev pub is_natural_in : ℕ → ℕ → ℤ → Bool
 is_natural_in low high z = is_some (natural_in low high z)
 
--- the items of an array, where each is of one type
+-- the items of an array, or None where the value is no array or an item is not of this kind
 abbrev pub items_of : {A : Type 0} → (Data → Option A) → Data → Option (List A)
 items_of kind value = option_and_then (all_after kind []) (as_array value)
 
@@ -54,7 +54,7 @@ a_table = record { has_type = λ v. is_some (as_table v); has_count = λ v. true
 abbrev pub some_tables : ℕ → ℕ → Kind
 some_tables low high = record { has_type = λ v. is_some (items_of as_table v); has_count = λ v. passes (is_count_in low high) (items_of as_table v); is_in_range = λ v. true }
 
--- an array of few to many whole numbers, each from low to high
+-- an array of whole numbers: from `few` to `many` of them, each from `low` to `high`
 abbrev pub some_wholes : ℕ → ℕ → ℕ → ℕ → Kind
 some_wholes few many low high = record {
   has_type = λ v. is_some (items_of as_integer v);

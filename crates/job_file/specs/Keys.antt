@@ -71,7 +71,8 @@ text_in test place value = do
   text ← or_fault place WrongKind (as_str value)
   or_fault place OutOfRange (if test text then Some text else None)
 
--- the name of a required key, which may be that of a curve: 1 to 32 bytes
+-- the text of a required key, which must be a name: 1 to 32 bytes of printable ASCII without comma
+-- and double quote
 unfoldable pub name : List ℕ → Entries → Result (List ℕ) JobFault
 name key t = do
   value ← required key t

@@ -25,6 +25,7 @@ values_of text = job_value (table_of text)
 abbrev pub AcceptsByRules : Type 0
 AcceptsByRules = (rule : BatchRule) (text : List ℕ) (job : Values) → (job_of rule text ≡ Ok job) ↔ (AllHold (rules_of rule text) × (job ≡ values_of text))
 
--- A fault is reported exactly where a rule with that fault is broken and every rule before it holds.
+-- A fault is reported exactly where a rule with that fault is broken and every rule before it
+-- holds.
 abbrev pub ReportsFirstBroken : Type 0
 ReportsFirstBroken = (rule : BatchRule) (text : List ℕ) (fault : JobFault) → (job_of rule text ≡ Err fault) ↔ IsFirstBroken (rules_of rule text) fault

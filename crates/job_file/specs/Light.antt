@@ -8,7 +8,8 @@ use Rattle.job_file.specs.Faults.{◌>>=◌, ◌>>◌}
 use Rattle.job_file.specs.Keys.{Entries, file_text, only_keys, whole, whole_or}
 use Rattle.job_file.specs.Texts.{is_file_text}
 
--- its keys: the name of the file of weights, the tolerance in thousandths, and l and c in tenths, 2:1 where they are absent
+-- its keys: the name of the file of weights, the tolerance in thousandths, and l and c in tenths,
+-- 2:1 where they are absent
 unfoldable pub light : Entries → Result JobLight JobFault
 light t = do
   only_keys (codes "weights" ∷ codes "tolerance" ∷ codes "l10" ∷ codes "c10" ∷ []) t

@@ -85,8 +85,8 @@ dye_value members = record {
 abbrev pub dye_place : ℕ → Place
 dye_place number = record { part = Dye; item = number; sub = 0 }
 
--- the closing rules of the next dye, after those in `before`: the least is not above the most, the most steps weigh at most
--- 20,000 units, and no dye before it has its name
+-- the closing rules of the next dye, after those in `before`: the least is not above the most, the
+-- most steps weigh at most 20,000 units, and no dye before it has its name
 abbrev pub dye_closing : Place → List JobDye → JobDye → List Rule
 dye_closing place before d =
     rule_at place OutOfRange (nat_le d.least d.most)
@@ -94,7 +94,8 @@ dye_closing place before d =
     ∷ rule_at place DoubleDye (not (has_dye before d.name))
     ∷ []
 
--- the rules of the next dye, after those in `before`: those of its keys, those of its dyeings, and the closing rules
+-- the rules of the next dye, after those in `before`: those of its keys, those of its dyeings, and
+-- the closing rules
 unfoldable pub dye_rules : List Members → Members → List Rule
 dye_rules before members =
     table_rules (dye_place (length before + 1)) dye_keys members
@@ -132,7 +133,8 @@ batch_keys = must (codes "curve") a_name ∷ must (codes "steps") (some_wholes 1
 unfoldable pub batch_value : Members → JobBatch
 batch_value members = record { curve = text_at (codes "curve") members; steps = record { items = wholes_at (codes "steps") members } }
 
--- the closing rules of a batch: one number of steps for each dye, which is at most the `most` of the dye
+-- the closing rules of a batch: one number of steps for each dye, which is at most the `most` of
+-- the dye
 abbrev pub batch_closing : List JobDye → JobBatch → List Rule
 batch_closing dyes b =
     rule_at batch_place BatchLength (length b.steps.items == length dyes)

@@ -1,5 +1,5 @@
--- A job with the curves of a file: each name of a curve is resolved to that curve, and a recipe of all dyes at their most
--- steps must not be too strong.
+-- A job with the curves of a file: each name of a curve is resolved to that curve, and a recipe of
+-- all dyes at their most steps must not be too strong.
 use Rattle.std.specs.Prelude.{◌+◌, ◌*◌, ◌^◌, ℕ, pos, Bool, not, int_lt, Option, Some, None, Result, Ok, List, [], ◌∷◌, length, map, if◌then◌else◌}
 use Rattle.std.specs.List.{list_any}
 use Rattle.std.specs.Str.{bytes_eq}
@@ -42,7 +42,8 @@ next_calibrated book substrate before d = do
 abbrev pub cost_of_dye : JobDye → DyeCost
 cost_of_dye d = record { step = d.step; least = d.least; most = d.most; price = d.price; fee = d.fee }
 
--- the number of the first dye with a name, counted from 1, or one more than the number of dyes where no dye has it
+-- the number of the first dye with a name, counted from 1, or one more than the number of dyes
+-- where no dye has it
 abbrev pub number_of : List JobDye → List ℕ → ℕ
 number_of [] name = 1
 number_of (d ∷ dyes) name = if bytes_eq d.name name then 1 else (number_of dyes name + 1)
@@ -69,7 +70,8 @@ abbrev pub base_curve : List ℕ → Option (List ℕ) → List ℕ
 base_curve substrate None = substrate
 base_curve substrate (Some batch) = batch
 
--- at some wavelength the K/S of a recipe is above 10^6, at the base scale
+-- at some wavelength the upper end, at scale 10^12, of the K/S of the base with these steps of the
+-- dyes is above 10^6
 unfoldable pub is_too_strong : List ℕ → List DyeData → List ℕ → Bool
 is_too_strong base dyes steps =
     list_any (λ q. int_lt (pos (10 ^ 6 * 10 ^ 12)) q.hi) (mixture_ks_at (10 ^ 12) (base_at (10 ^ 12) base) (portions dyes steps steps))
@@ -85,8 +87,9 @@ pub record ResolvedJob : Type 0 where
   pub weights : List WeightTable
   pub batch : Option (List ℕ)
 
--- the resolved job, or its first fault: a name without a curve, of the substrate, of the standard, of the dyeings in order or of
--- the batch; and then dyes that are too strong
+-- The resolved job, or its first fault. First the curves are found by their names: those of the
+-- substrate, of the standard, of the dyeings in order, and of the batch. A name without a curve is
+-- a fault. Last, dyes that are too strong are one
 unfoldable pub resolved_job : Book → Values → List WeightTable → Result ResolvedJob JobFault
 resolved_job book j weights = do
   substrate ← curve_of book job_place j.head.substrate

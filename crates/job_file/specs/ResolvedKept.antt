@@ -5,15 +5,18 @@ use Rattle.price_grid.specs.Grid.{IsRecipe}
 use Rattle.price_grid.specs.Limits.{FitGrid}
 use Rattle.job_file.specs.Resolve.{ResolvedJob, base_curve, is_too_strong}
 
--- all curves and weights of a resolved job have the same number of wavelengths
+-- the standard's and the batch's curve, the substrate of each dye and the weights of each light
+-- have as many wavelengths as the substrate
 pub record HaveEqualWaves (r : ResolvedJob) : Type 0 where
   pub standard : length r.standard ≡ length r.substrate
   pub batch : IfSome r.batch (λ c. length c ≡ length r.substrate)
   pub dyes : All (λ d. length d.substrate ≡ length r.substrate) r.dyes
   pub weights : All (λ w. length w.weights ≡ length r.substrate) r.weights
 
--- a dye of the grid for each of the job, and a calibrated one for each of the grid, with the same step; weights for each light;
--- limits and a bath that fit the grid; and a recipe of all dyes at their most steps is not too strong
+-- The grid has one dye for each dye of the job, and there is one calibrated dye for each of the
+-- grid, with the same step. There are weights for each light. The limits and the steps of the batch
+-- fit the grid. A recipe of all dyes at their most steps is not too strong. The curves and weights
+-- have equally many wavelengths
 pub record IsResolved (r : ResolvedJob) : Type 0 where
   pub grid : length r.grid ≡ length r.job.dye
   pub steps : AllZip (λ dye cost. dye.step ≡ cost.step) r.dyes r.grid

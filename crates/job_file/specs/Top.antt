@@ -37,8 +37,9 @@ job_keys =
     codes "version" ∷ codes "curves" ∷ codes "substrate" ∷ codes "standard" ∷ codes "load" ∷ codes "max_dyes" ∷ codes "max_total" ∷ codes "max_cost"
     ∷ codes "budget" ∷ codes "light" ∷ codes "dye" ∷ codes "pair" ∷ codes "batch" ∷ []
 
--- the texts and numbers of a job: the file of curves, the names of the substrate's and the standard's curve, the kilograms of
--- cloth, the most dyes and units of a recipe, the ceiling of its cost, and the budget of boxes
+-- the texts and numbers of a job: the file of curves, the names of the substrate's and the
+-- standard's curve, the kilograms of cloth, the most dyes and units of a recipe, the ceiling of its
+-- cost, and the budget of boxes
 unfoldable pub head : Entries → Result Head JobFault
 head t = do
   curves ← file_text (codes "curves") t
@@ -58,7 +59,8 @@ pub record Inner : Type 0 where
   pub pair : List Members
   pub batch : Option Members
 
--- one or two lights, one to twelve dyes, up to 66 pairs, and a batch, which must be there where the rule needs one
+-- one or two lights, one to twelve dyes, up to 66 pairs, and a batch, which must be there where the
+-- rule needs one
 unfoldable pub inner : BatchRule → Entries → Result Inner JobFault
 inner rule t = do
   lights ← tables (codes "light") 1 2 t
@@ -68,7 +70,8 @@ inner rule t = do
   found ← table_if_any (codes "batch") t
   Ok (record { light = lights; dye = dyes; pair = pairs; batch = found })
 
--- a check that the version is 1, and that there are no unknown keys; `batch` is a known key where the rule takes a batch
+-- a check that the version is 1, and that there are no unknown keys; `batch` is a known key where
+-- the rule takes a batch
 unfoldable pub keys : BatchRule → Entries → Result (Unit {0}) JobFault
 keys rule t = do
   version ← or_fault t.place NotVersion1 (version_of t.members)

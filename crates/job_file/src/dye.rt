@@ -20,15 +20,18 @@ use toml::Table;
 pub struct JobDye {
     /// Its name, which no other dye of the job has.
     pub name: Text,
-    /// The price of a unit, 0 to 1,000,000 cost units.
+    /// The price of a unit of dye, which is 0.001 percent of the weight of the cloth: 0 to
+    /// 1,000,000 cost units.
     pub price: u64,
     /// The fee that is paid once if any of it is used, 0 to 10^12 cost units.
     pub fee: u64,
     /// The units of one step, 1 to 20,000.
     pub step: u32,
-    /// The fewest steps of a recipe that uses it, 1 to 4,000.
+    /// The fewest steps of it in a recipe that uses it, 1 to 4,000. In a correction what is in the
+    /// bath counts, too.
     pub least: u16,
-    /// The most steps of a recipe, 1 to 4,000. All these steps weigh at most 20,000 units.
+    /// The most steps of it in a recipe, 1 to 4,000; together they weigh at most 20,000 units. In a
+    /// correction what is in the bath counts, too.
     pub most: u16,
     /// Its laboratory dyeings, one to eight.
     pub dyeing: ArrayVec<JobDyeing, 8>,

@@ -28,11 +28,11 @@ pub enum Part {
 pub enum JobRule {
     /// The bytes are no TOML document.
     NotToml,
-    /// The version is not 1.
+    /// The version is absent, or is not the whole number 1.
     NotVersion1,
     /// A key that this part does not have.
     UnknownKey,
-    /// A required key is absent.
+    /// A required key other than `version` is absent.
     MissingKey,
     /// A value of the wrong type.
     WrongKind,
@@ -52,7 +52,8 @@ pub enum JobRule {
     TooWide,
     /// The curve file has no such curve.
     UnknownColumn,
-    /// The K/S of all dyes at their most steps is above 1,000,000.
+    /// At some wavelength the K/S of the cloth with all dyes at their most steps has an upper end
+    /// above 1,000,000. The cloth is the batch where there is one, and else the substrate.
     TooStrong,
 }
 
@@ -66,7 +67,7 @@ pub struct JobFault {
     pub rule: JobRule,
 }
 
-/// Why a job was not read, or its curves were not found.
+/// Why a job was not read, or was not resolved.
 #[derive(Debug, Drop, Error)]
 pub enum JobError {
     /// The first fault of the job.

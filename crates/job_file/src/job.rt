@@ -27,9 +27,10 @@ pub struct Job {
     pub standard: Text,
     /// The kilograms of cloth, 1 to 100,000.
     pub load: u32,
-    /// The most dyes of a recipe, 1 to 12.
+    /// The most dyes of a recipe, 1 to 12. In a correction what is in the bath counts, too.
     pub max_dyes: u8,
-    /// The most units of all dyes of a recipe together, 1 to 240,000.
+    /// The most units of all dyes of a recipe together, 1 to 240,000. In a correction what is in
+    /// the bath counts, too.
     pub max_total: u32,
     /// The highest cost of a recipe, up to 10^15 cost units, if there is a limit.
     pub max_cost: Option<u64>,

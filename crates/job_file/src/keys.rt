@@ -85,7 +85,7 @@ impl Section<'_> {
         }
     }
 
-    /// The name of a required key.
+    /// The text of a required key, which must be a name.
     #[tactic(auto, unfolding(crate::specs::Keys::name))]
     pub(crate) fn name(&self, alloc: Global, key: &str) -> Result<Text, JobError>
         ensures is { Gives (λ t. t) result (name key.now (entries_of self.now)) }
@@ -100,7 +100,7 @@ impl Section<'_> {
         }
     }
 
-    /// The file name of a required key.
+    /// The text of a required key, which must be able to name a file.
     #[tactic(auto, unfolding(crate::specs::Keys::file_text))]
     pub(crate) fn file_text(&self, alloc: Global, key: &str) -> Result<Text, JobError>
         ensures is { Gives (λ t. t) result (file_text key.now (entries_of self.now)) }

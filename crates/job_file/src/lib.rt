@@ -1,4 +1,5 @@
-//! Job files in TOML: a job is read and its curves are found, or its first fault is reported.
+//! Job files in TOML: a job is read and its curves are found. The error is its first fault, or that
+//! memory ran out.
 #![tactic(auto)]
 
 mod arrays;

@@ -69,7 +69,7 @@ fn job(alloc: Global, rule: BatchRule, table: &Section) -> Result<Job, JobError>
     })
 }
 
-/// Reads a job: its values, or its first fault with its place.
+/// Reads a job. The error is its first fault with its place, or that memory ran out.
 #[tactic(auto, unfolding(crate::specs::Job::job_of))]
 pub fn read_job(alloc: Global, bytes: &[u8], batch: BatchRule) -> Result<Job, JobError>
     ensures { Gives job_view result (job_of batch bytes.now) }

@@ -49,9 +49,10 @@ fn base_curve<'a>(substrate: &'a Curve, batch: &'a Option<Curve>) -> &'a Curve
     }
 }
 
-/// Finds the curves of a job among those of its curve file, and from them its calibrated dyes, its
-/// grid and its limits. Else the result is the first fault: a name without a curve, or dyes that
-/// are too strong. The weights are those of the lights, in their order.
+/// Finds the curves of a job among those of its curve file, and calibrates its dyes by them. The
+/// grid and the limits come from the job alone. Else the result is the first fault (a name without
+/// a curve, or dyes that are too strong), or that memory ran out. The weights are those of the
+/// lights, in their order.
 #[tactic(auto, unfolding(crate::specs::Resolve::resolved_job))]
 pub fn resolve(
     alloc: Global,

@@ -12,7 +12,8 @@ use spectral_tables::Curve;
 /// The highest K/S that a recipe of all dyes at their most steps may have.
 const STRONGEST: i128 = 1_000_000;
 
-/// Whether at some wavelength the K/S of these steps of the dyes on a cloth is above 1,000,000.
+/// Whether at some wavelength the upper end of the K/S of a cloth with these steps of the dyes is
+/// above 1,000,000.
 #[tactic(auto, unfolding(crate::specs::Resolve::is_too_strong))]
 pub(crate) fn is_too_strong(base: &Curve, dyes: &[Dye], steps: &[u16]) -> bool
     requires few { length dyes.now ≤ 12 }

@@ -1,4 +1,5 @@
--- A job that is accepted by any rule for its batch is also accepted where a batch may be there or not.
+-- A job that is accepted by any rule for its batch is also accepted where a batch may be there or
+-- not.
 use Rattle.std.proofs.Common.{◌≡◌, Ok, refl}
 use Rattle.std.specs.Prelude.{◌||◌, codes, not}
 use Rattle.job_file.specs.declared.fault.JobRule.TheVariants.{MissingKey, NotToml, NotVersion1}

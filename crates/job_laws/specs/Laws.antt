@@ -6,8 +6,8 @@ use Rattle.job_file.specs.declared.top.BatchRule.TheVariants.{Either}
 use Rattle.job_file.specs.Job.{Values, job_at, job_of}
 use Rattle.job_file.specs.Keys.{Entries}
 
--- A text that is accepted as a job by any rule for its batch is also accepted, with the same values, where a batch may be there
--- or not.
+-- A text that is accepted as a job by at least one rule for its batch is also accepted, with the
+-- same values, where a batch may be there or not.
 abbrev pub AcceptsEither : Type 0
 AcceptsEither = (rule : BatchRule) (text : List ℕ) (v : Values) → job_of rule text ≡ Ok v → job_of Either text ≡ Ok v
 

@@ -2,8 +2,8 @@
 
 ghost use Rattle.job_laws.specs.Laws.{AcceptsEither, BudgetFits, FilesAreNoCerts, TableAcceptsEither};
 
-/// A job that is accepted by any rule for its batch is also accepted, with the same values, by the
-/// rule that a batch may be there or not.
+/// A job that is accepted by at least one rule for its batch is also accepted, with the same
+/// values, by the rule that a batch may be there or not.
 pub fn batch_rule()
     ensures text { AcceptsEither }
     ensures table { TableAcceptsEither }

@@ -1,4 +1,5 @@
--- Bounds on the differences of the upper ends of K/S and of a contribution between a scale n and the finer scale m * n.
+-- Bounds on the differences of the upper ends of K/S and of a contribution between a scale n and
+-- the finer scale m * n.
 use Rattle.std.proofs.Common.{◌≡◌, ◌+◌, ◌-◌, ◌*◌, ◌/◌, ◌^◌, ◌≤◌, ◌<◌, ◌≤ℤ◌, ◌+ℤ◌, ◌-ℤ◌, ◌*ℤ◌, neg_ℤ, ℕ, ℤ, pos, negsuc, List, [], ◌∷◌, All, get_or, length, refl, subst, zero-add, arith}
 use Rattle.std.specs.Prelude.{slice_index}
 use Rattle.std.specs.Int.{div_ceil, int_max}

@@ -59,7 +59,8 @@ over_up_to n dye wave x0 x1 kept ordered few range =
 
 -- ---- what is computed
 
--- what is known of a dye when its value is computed: its denominator, and the ends of its numerator at a wavelength
+-- what is known of a dye when its value is computed: its denominator, and the ends of its numerator
+-- at a wavelength
 pub record IsSlope (n : ℕ) (dye : DyeData) (wave denominator : ℕ) (numerator : ℕ × ℕ) : Type 0 where
   pub is_dye : IsDye dye
   pub denominator_is : denominator ≡ square_sum dye.dyeings

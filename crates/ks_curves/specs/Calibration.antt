@@ -1,6 +1,6 @@
--- The calibration of a dye: the line through the origin that fits its dyeings by least squares, cut at 0. Each dyeing
--- adds to the K/S of the substrate; the slope of the line is the sum of the units of each dyeing times what it adds,
--- over the sum of the squares of the units.
+-- The calibration of a dye: the line through the origin that fits its dyeings by least squares, cut
+-- at 0. Each dyeing adds to the K/S of the substrate; the slope of the line is the sum of the units
+-- of each dyeing times what it adds, over the sum of the squares of the units.
 use Rattle.std.specs.Prelude.{ℕ, ◌*◌, pos, List, [], ◌∷◌, slice_index, sum_by}
 use Rattle.interval_specs.specs.Ends.{Ends, nothing}
 use Rattle.interval_specs.specs.Operations.{sum_of, difference_of, multiple_of, fraction_of, cut_low_at}
@@ -30,8 +30,9 @@ square_sum dyeings = sum_by (λ dyeing. dyeing.0 * dyeing.0) dyeings
 unfoldable pub value_at : ℕ → DyeData → ℕ → ℕ → Ends
 value_at n dye wave units = fraction_of units (square_sum dye.dyeings) (numerator_at n dye.substrate wave dye.dyeings)
 
--- The value of the calibration over units from x0 to x1: it rises with the units, so the lower end is that at x0 and
--- the upper end that at x1. All definitions below use only this value.
+-- The value of the calibration over units from x0 to x1: it does not fall where the units grow, so
+-- the lower end is that at x0 and the upper end that at x1. All definitions below use only this
+-- value.
 unfoldable pub value_over : ℕ → DyeData → ℕ → ℕ → ℕ → Ends
 value_over n dye wave x0 x1 = record { lo = (value_at n dye wave x0).lo; hi = (value_at n dye wave x1).hi }
 

@@ -1,4 +1,5 @@
--- The laws of K/S and of a dye's contribution. They hold of any reflectances, units and wavelengths.
+-- The laws of K/S and of a dye's contribution. They hold of any reflectances, units and
+-- wavelengths.
 use Rattle.std.specs.Prelude.{◌*◌, ◌≤◌, ◌≤ℤ◌, ℕ, pos}
 use Rattle.interval_specs.specs.Encloses.{Encloses}
 use Rattle.ks_curves.specs.KubelkaMunk.{ks_at}
@@ -15,7 +16,8 @@ ContributionEncloses =
     (n m : ℕ) (dye : DyeData) (wave n0 n1 : ℕ) → n0 ≤ n1
     → Encloses m (contribution_range_at n dye wave n0 n1) (contribution_range_at (m * n) dye wave n0 n1)
 
--- a contribution over a range of steps encloses that over any range within it, and so that of each number of steps
+-- a contribution over a range of steps encloses that over any range within it, and so that of each
+-- number of steps
 abbrev pub ContributionNarrows : Type 0
 ContributionNarrows =
     (n : ℕ) (dye : DyeData) (wave n0 n1 k0 k1 : ℕ) → n0 ≤ k0 → k0 ≤ k1 → k1 ≤ n1

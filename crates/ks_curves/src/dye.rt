@@ -21,7 +21,7 @@ const MOST_WAVES: usize = 31;
 /// The two ends of a numerator at each wavelength, neither below 0.
 type Numerators = ArrayVec<(u128, u128), MOST_WAVES>;
 
-/// Guesses at the two ends of the slope at each wavelength, for the base scale.
+/// Guesses at 2^24 times the two ends of the slope at each wavelength, for the base scale.
 type Slopes = [(u64, u64); MOST_WAVES];
 
 /// A dye, described by the cloths that were dyed with it: the units of a step, 1 to 8 dyeings with
@@ -75,7 +75,7 @@ fn numerators<S: Scale>(substrate: &Curve, dyeings: &[(u32, Curve)]) -> Numerato
     kept
 }
 
-/// Guesses at the slope, from its numerators and its denominator.
+/// Guesses at 2^24 times the slope, from its numerators and its denominator.
 fn near_slopes(numerators: &[(u128, u128)], denominator: u64) -> Slopes {
     let mut slopes = [(0, 0); MOST_WAVES];
     for wave in 0..MOST_WAVES {
@@ -148,8 +148,8 @@ impl Dye {
         }
     }
 
-    /// A guess at the ends of the slope at a wavelength, only at the base scale, since a division
-    /// costs less at the quick scale.
+    /// A guess at 2^24 times the ends of the slope at a wavelength, and 0 at other scales than the
+    /// base scale, since a division costs less at the quick scale.
     #[inline(always)]
     fn near<S: Scale>(&self, wave: usize) -> (u64, u64) {
         if S::UNIT != Base::UNIT {

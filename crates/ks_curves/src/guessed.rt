@@ -2,8 +2,8 @@
 ghost use Rattle.std.specs.Prelude.{◌≡◌, ◌*◌, ◌/◌, ◌^◌, ◌<◌};
 ghost use Rattle.std.specs.Int.{div_ceil};
 
-/// The quotient of `z` by `divisor`, rounded down: `near` where a test shows that it is this or one
-/// less, and else by a division.
+/// The quotient of `z` by `divisor`, rounded down. Where a test shows that it is `near`, or one
+/// more, there is no division.
 #[inline(always)]
 pub fn quotient(z: u128, divisor: u64, near: u64) -> u128
     requires { 0 < divisor }
@@ -21,7 +21,7 @@ pub fn quotient(z: u128, divisor: u64, near: u64) -> u128
     z / by
 }
 
-/// The same, rounded up.
+/// The quotient of `z` by `divisor`, rounded up, where `near` is a guess at the one rounded down.
 #[inline(always)]
 pub fn quotient_up(z: u128, divisor: u64, near: u64) -> u128
     requires some { 0 < divisor }

@@ -17,7 +17,7 @@ pub fn contribution_in_range()
     ensures { ContributionNarrows }
 {}
 
-/// A contribution is never below 0, and grows with the steps.
+/// A contribution is never below 0, and neither end falls where the steps grow.
 pub fn contribution_grows()
     ensures { ContributionGrows }
 {}

@@ -51,7 +51,7 @@ fn a_dye_of_one_dyeing(rt: HostRuntime) {
 }
 
 /// A wrong guess only costs time, so no clause rules it out: this test counts the wrong ones, for
-/// numerators up to 2^56 parts, as a dye of four dyeings has.
+/// numerators up to 2^56 parts and the squares of four dyeings of 250 to 2,000 units.
 #[test]
 fn guesses_are_mostly_right(rt: HostRuntime) {
     let squares: u64 = 5_312_500;

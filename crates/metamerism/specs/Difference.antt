@@ -5,7 +5,8 @@ use Rattle.cielab_bounds.specs.Cielab.{LabEnds, lab_at}
 use Rattle.spectral_tables.specs.WeightTable.{WeightTable}
 use Rattle.tristimulus.specs.Ratios.{ratios_at}
 
--- CIELAB coordinates (CIE 15) by the tristimulus ratios (ASTM E308) of a spectrum under the weights of a light, at scale n
+-- CIELAB coordinates (CIE 15) by the tristimulus ratios (ASTM E308) of a spectrum under the weights
+-- of a light, at scale n
 unfoldable pub colour_under : WeightTable → ℕ → List Ends → LabEnds
 colour_under weights n spectrum = lab_at n (ratios_at n spectrum weights)
 

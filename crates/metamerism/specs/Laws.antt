@@ -11,11 +11,13 @@ use Rattle.metamerism.specs.Difference.{colour_under, difference_under}
 use Rattle.metamerism.specs.Verdicts.{VerdictHolds, light_verdict, verdict_at}
 use Rattle.metamerism.specs.declared.outcomes.Verdict.TheVariants.{Fail, Pass}
 
--- the coordinates of the colour of reflectances from 0 to 1 are at most 1000 in magnitude, under any weights that a file may have
+-- the coordinates of the colour of reflectances from 0 to 1 are at most 1000 in magnitude, under
+-- any weights that a file may have
 abbrev pub ColourInRange : Type 0
 ColourInRange = (n : ℕ) (weights : WeightTable) (spectrum : List Ends) → IsWeightTable weights → All (UpTo n) spectrum → IsColour n (colour_under weights n spectrum)
 
--- the difference by a formula's value keeps enclosing where the scale grows from n to m * n and both spectra narrow
+-- from scale n = 10^6 on, the difference by a formula's value encloses the one at scale m * n of
+-- two spectra that these enclose
 abbrev pub EnclosesFiner : (ℕ → LabEnds → LabEnds → Ends) → Type 0
 EnclosesFiner value =
     (n m : ℕ) (weights : WeightTable) (standard sample standard' sample' : List Ends) → 10 ^ 6 ≤ n → 0 < m → IsWeightTable weights
@@ -35,7 +37,8 @@ EnclosesNarrower value =
 abbrev pub VerdictIsTrue : Type 0
 VerdictIsTrue = (n : ℕ) (tolerances : List ℕ) (deltas : List Ends) → length tolerances ≡ length deltas → All IsOrdered deltas → VerdictHolds n tolerances deltas (verdict_at n tolerances deltas)
 
--- a pass or a fail of a light stays one where the scale grows from n to m * n and the difference narrows
+-- a pass or a fail of a light stays one where the scale grows from n to m * n and the difference
+-- narrows
 abbrev pub VerdictStays : Type 0
 VerdictStays =
     (n m tolerance number : ℕ) (delta finer : Ends) → 0 < m → Encloses m delta finer

@@ -12,20 +12,22 @@ IsPass n tolerance delta = (pos 1000 *ℤ delta.hi) ≤ℤ pos (tolerance * n)
 abbrev pub IsFail : ℕ → ℕ → Ends → Type 0
 IsFail n tolerance delta = pos (tolerance * n) <ℤ (pos 1000 *ℤ delta.lo)
 
--- the verdict on the light of a number
+-- the verdict on the difference under the light with this number
 unfoldable pub light_verdict : ℕ → ℕ → ℕ → Ends → Verdict
 light_verdict n tolerance number delta =
     if int_le (pos 1000 *ℤ delta.hi) (pos (tolerance * n)) then Pass
     else (if int_lt (pos (tolerance * n)) (pos 1000 *ℤ delta.lo) then Fail number
     else Undecided)
 
--- what the verdict on a light means for its difference: a pass of the upper end, a fail of the lower end
+-- what the verdict on the difference under a light means: `Pass`, that its upper end is within the
+-- tolerance; `Fail`, that its lower end is above it; `Undecided`, nothing
 abbrev pub LightVerdictHolds : ℕ → ℕ → Ends → Verdict → Type 0
 LightVerdictHolds n tolerance delta Pass = IsPass n tolerance delta
 LightVerdictHolds n tolerance delta (Fail number) = IsFail n tolerance delta
 LightVerdictHolds n tolerance delta Undecided = Unit {0}
 
--- the verdict on some lights and those after them: the first light that fails decides, and else one that is undecided
+-- the verdict on some lights and those after them: the first light that fails decides, and else one
+-- that is undecided
 abbrev pub joint : Verdict → Verdict → Verdict
 joint Pass after = after
 joint (Fail number) after = Fail number
@@ -48,7 +50,7 @@ pub record IsAt (tolerances : List ℕ) (deltas : List Ends) (i tolerance : ℕ)
   pub tolerance_is : slice_get tolerances i ≡ Some tolerance
   pub delta_is : slice_get deltas i ≡ Some delta
 
--- the sample fails under the light of a number, the first being number 1
+-- the light with this number, counted from 1, is the first under which the sample fails
 pub record FailsUnder (n : ℕ) (tolerances : List ℕ) (deltas : List Ends) (number : ℕ) : Type 0 where
   pub index : ℕ
   pub number_is : number ≡ index + 1
@@ -58,7 +60,8 @@ pub record FailsUnder (n : ℕ) (tolerances : List ℕ) (deltas : List Ends) (nu
   pub fails : IsFail n tolerance delta
   pub first : (i tolerance : ℕ) (delta : Ends) → i < index → IsAt tolerances deltas i tolerance delta → IsFail n tolerance delta → ⊥
 
--- what a verdict means: every light passes; or the light of the number fails, as the first one; or no light fails, but one does not pass
+-- what a verdict means: every light passes; or the light of the number fails, as the first one; or
+-- no light fails, but one does not pass
 abbrev pub VerdictHolds : ℕ → List ℕ → List Ends → Verdict → Type 0
 VerdictHolds n tolerances deltas Pass = (i tolerance : ℕ) (delta : Ends) → IsAt tolerances deltas i tolerance delta → IsPass n tolerance delta
 VerdictHolds n tolerances deltas (Fail number) = FailsUnder n tolerances deltas number

@@ -16,7 +16,7 @@ use fix_bounds::{Iv, Scale};
 use spectral_tables::{Spectrum, Weights};
 use tristimulus::ratios;
 
-/// The colour of a spectrum under the weights of a light, which have as many wavelengths.
+/// The colour of a spectrum under the weights of a light. Both have the same number of wavelengths.
 #[tactic(auto, unfolding(crate::specs::Difference::colour_under))]
 fn colour<S: Scale>(weights: &Weights, spectrum: &Spectrum<S>) -> Lab<S>
     requires { HasItemEachWave weights.now spectrum.now }

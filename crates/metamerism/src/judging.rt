@@ -10,7 +10,8 @@ use crate::outcomes::{Deltas, Verdict};
 use cielab_bounds::Difference;
 use fix_bounds::{Base, Iv, Scale, unit};
 
-/// The verdict on the difference under the light of a number, against a tolerance in thousandths.
+/// The verdict on the difference under the light with this number, against a tolerance in
+/// thousandths.
 #[tactic(auto, unfolding(crate::specs::Verdicts::light_verdict))]
 fn judge_at<S: Scale>(tolerance: u32, number: u8, delta: Iv<S>) -> Verdict
     requires { tolerance ≤ 100000 }

@@ -8,8 +8,8 @@ pub fn colour()
     ensures { ColourInRange }
 {}
 
-/// The law of the difference under a light by any formula: it keeps enclosing where the scale grows
-/// and the spectra narrow.
+/// The law of the difference under a light by any formula: from scale 10^6 on, it encloses that of
+/// narrower spectra at each finer scale.
 pub fn finer<D: Formula>(rule: &D)
     ensures { EnclosesFiner (D.value rule.now) }
 {}
@@ -19,12 +19,13 @@ pub fn narrower<D: Formula>(rule: &D)
     ensures { EnclosesNarrower (D.value rule.now) }
 {}
 
-/// The meaning of the result of [`verdict`](crate::verdict) for each light.
+/// What the result of [`verdict`](crate::verdict) says of the differences under the lights.
 pub fn verdict()
     ensures { VerdictIsTrue }
 {}
 
-/// A pass or a fail by [`judge_light`](crate::judge_light) is one at every finer scale.
+/// A pass or a fail by [`judge_light`](crate::judge_light) stays one at every finer scale, where
+/// the difference encloses the one at that scale.
 pub fn judge_light()
     ensures { VerdictStays }
 {}

@@ -43,7 +43,7 @@ impl<S: Scale, D: Difference<S>> Lights<S, D> {
         self.each.len() as u8
     }
 
-    /// The light of a number, the first being number 1.
+    /// The light with this number, counted from 1.
     pub fn get(&self, number: u8) -> &Light<S, D>
         requires some { 0 < number }
         requires there { number ≤ length (lights_of self.now) }

@@ -17,11 +17,12 @@ pub enum Verdict {
     /// Under the light of this number, counted from 1, the lower end of the difference is above the
     /// tolerance. It is the first such light.
     Fail(u8),
-    /// No light fails, but the tolerance of one lies within the ends of its difference.
+    /// No light fails, but under at least one the tolerance is at least the lower end of the
+    /// difference and below its upper end.
     Undecided,
 }
 
-/// The verdict that claims nothing.
+/// The verdict of a default value: `Undecided`.
 impl Default for Verdict {
     ghost use Rattle.std.specs.Prelude.{◌≡◌};
     ghost use Rattle.metamerism.specs.declared.outcomes.Verdict.TheVariants.{Undecided};
@@ -37,7 +38,8 @@ impl Verdict {
     ghost use Rattle.std.specs.Prelude.{◌≡◌};
     ghost use Rattle.metamerism.specs.Verdicts.{joint};
 
-    /// The verdict on the lights of both, where those of `after` have the higher numbers.
+    /// The verdict on two groups of lights together: `self` is that on the group with the lower
+    /// numbers, and `after` that on the other.
     pub(crate) fn joint(self, after: Verdict) -> Verdict
         ensures { result ≡ joint self after }
     {

@@ -1,5 +1,5 @@
--- The upper end of a mixture's K/S at the quick scale is less than 1 above that at the base scale: each dye raises it by
--- at most 40,001 quick parts, and the base by one.
+-- The upper end of a mixture's K/S at the quick scale is less than 1 above that at the base scale:
+-- each dye raises it by at most 40,001 quick parts, and the base by one.
 use Rattle.std.proofs.Common.{◌≡◌, ◌+◌, ◌*◌, ◌^◌, ◌≤◌, ◌<◌, ◌≤ℤ◌, ◌<ℤ◌, ◌+ℤ◌, ◌*ℤ◌, ℕ, ℤ, pos, List, [], ◌∷◌, All, length, arith, subst}
 use Rattle.std.specs.List.{AllZip}
 use Rattle.std.proofs.lemmas.Int.{ints}

@@ -35,17 +35,18 @@ MixtureEncloses =
     (n m : ℕ) (base finer : List Ends) (ps : List Portion) → 0 < n → 0 < m → IsBase n base → EnclosesWaves m base finer → All (λ p. p.fewest ≤ p.most) ps
     → EnclosesWaves m (mixed_at n base ps) (mixed_at (m * n) finer ps)
 
--- at one scale, a mixture over ranges of steps encloses that over any ranges within them, and so that of each recipe
+-- at one scale, a mixture over ranges of steps encloses that over any ranges within them, and so
+-- that of each recipe
 abbrev pub MixtureNarrows : Type 0
 MixtureNarrows =
     (n : ℕ) (base : List Ends) (wide narrow : List Portion) → 0 < n → IsBase n base → AllZip IsWithin wide narrow
     → EnclosesWaves 1 (mixed_at n base wide) (mixed_at n base narrow)
 
--- q at scale 10^8, as a number, is less than 1 above q at scale 10^12
+-- the upper end of K/S at scale 10^8, as a number, is less than 1 above that at scale 10^12
 abbrev pub IsNear : Ends → Ends → Type 0
 IsNear quick base = (pos (10 ^ 4) *ℤ quick.hi) <ℤ (base.hi +ℤ pos (10 ^ 12))
 
--- For up to 12 dyes, with units that can be mixed, the upper ends of q at both scales are near each other.
+-- for up to 12 dyes, with units that can be mixed, this holds of the K/S at each wavelength
 abbrev pub QuickIsNear : Type 0
 QuickIsNear =
     (curve : List ℕ) (ps : List Portion) → IsCurve curve → length ps ≤ 12 → All (λ p. IsDye p.dye) ps → All (IsPortion (length curve)) ps

@@ -43,7 +43,8 @@ pub record IsPortion (count : ℕ) (p : Portion) : Type 0 where
   pub units : p.most * p.dye.step ≤ 20000
   pub waves : length p.dye.substrate ≡ count
 
--- dyes that can be added to a base of `count` wavelengths: as many steps as dyes, and portions that fit
+-- dyes that can be added to a base of `count` wavelengths: as many steps as dyes, and portions that
+-- fit
 pub record CanAdd (count : ℕ) (dyes : List DyeData) (lo hi : List ℕ) : Type 0 where
   pub lo_count : length lo ≡ length dyes
   pub hi_count : length hi ≡ length dyes

@@ -1,4 +1,5 @@
--- The reflectance of an opaque layer from its K/S, by Kubelka and Munk: the inverse of K/S = (1 - R)^2 / 2R.
+-- The reflectance of an opaque layer from its K/S, by Kubelka and Munk: the inverse of
+-- K/S = (1 - R)^2 / 2R.
 use Rattle.std.specs.Prelude.{ℕ, pos}
 use Rattle.interval_specs.specs.Ends.{Ends, one_at}
 use Rattle.interval_specs.specs.Operations.{sum_of, multiple_of, square_at, quotient_at}

@@ -1,4 +1,4 @@
-//! Quotients by the unit of a scale, by a guess and a test.
+//! Quotients by the unit of a scale; of numbers from 2^64 on by a guess and a test.
 ghost use Rattle.std.specs.Prelude.{◌≡◌, ◌*◌, ◌/◌, ◌^◌, ◌<◌, ◌≤◌, ℕ};
 ghost use Rattle.std.specs.Int.{div_ceil};
 

@@ -27,7 +27,8 @@ pub fn mix_in_range()
     ensures { MixtureNarrows }
 {}
 
-/// What can be mixed at the scale 10^12 with a K/S of at most 10^6 can be mixed at the scale 10^8.
+/// At each wavelength the upper end of K/S at the scale 10^8 is less than 1 above that at 10^12. So
+/// what can be mixed at 10^12 with a K/S of at most 10^6 can be mixed at 10^8.
 pub fn quick_scale()
     ensures { QuickIsNear }
 {}

@@ -3,7 +3,8 @@ use Rattle.std.specs.Prelude.{◌≤◌, ◌*◌, ◌^◌, ℕ, List, length, Al
 use Rattle.std.specs.List.{AllZip}
 use Rattle.price_grid.specs.declared.dye_cost.DyeCost.{DyeCost}
 
--- the ranges of a dye's numbers. Its steps together weigh at most 20,000 units, a fifth of the cloth
+-- the ranges of a dye's numbers. Its steps together weigh at most 20,000 units, a fifth of the
+-- cloth
 pub record IsDyeCost (dye : DyeCost) : Type 0 where
   pub some_step : 1 ≤ dye.step
   pub small_step : dye.step ≤ 20000

@@ -9,7 +9,7 @@ use Rattle.price_grid.specs.Grid.{IsUpTo}
 use Rattle.price_grid.specs.Limits.{LimitsView, breaks, excludes_box}
 use Rattle.price_grid.specs.Order.{key_cmp, key_of}
 
--- a recipe with more steps costs no less
+-- a recipe with at least as many steps of each dye costs no less
 abbrev pub CostGrows : Type 0
 CostGrows = (dyes : List DyeCost) (low high : List ℕ) → IsUpTo low high → cost_of dyes low ≤ cost_of dyes high
 

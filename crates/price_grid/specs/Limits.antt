@@ -10,8 +10,9 @@ use Rattle.price_grid.specs.Cost.{cost_of}
 use Rattle.price_grid.specs.Grid.{IsRecipe}
 use Rattle.price_grid.specs.Sums.{zip_sum}
 
--- the limits of a job: the most dyes, the most units of all dyes together, the highest cost, if there is a ceiling, and the
--- pairs of dyes that a recipe may not have together, each dye by its number from 1; and the steps already in the bath
+-- the limits of a job: the most dyes, the most units of all dyes together, the highest cost, if
+-- there is a ceiling, and the pairs of dyes that a recipe may not have together, each dye by its
+-- number from 1; and the steps already in the bath
 pub record LimitsView : Type 0 where
   pub max_dyes : ℕ
   pub max_total : ℕ
@@ -38,11 +39,13 @@ with_bath [] steps = []
 with_bath (b ∷ bath) [] = []
 with_bath (b ∷ bath) (n ∷ steps) = (b + n) ∷ with_bath bath steps
 
--- all numbers of steps from low to high are above the most steps of the dye, or all are above 0 and below its fewest
+-- all numbers of steps from low to high are above the most steps of the dye, or all are above 0 and
+-- below its fewest
 abbrev pub is_outside : DyeCost → ℕ → ℕ → Bool
 is_outside dye low high = nat_lt dye.most low || (nat_lt 0 low && nat_lt high dye.least)
 
--- some dye is outside its range for all its numbers of steps from low to high
+-- some dye is above its most steps for all its numbers of steps from low to high, or is used with
+-- fewer than its least for all of them
 abbrev pub any_outside : List DyeCost → (low high : List ℕ) → Bool
 any_outside [] low high = false
 any_outside (dye ∷ dyes) [] high = false
@@ -66,8 +69,8 @@ abbrev pub is_above : Option ℕ → ℕ → Bool
 is_above None cost = false
 is_above (Some most) cost = nat_lt most cost
 
--- whether a recipe breaks a limit. The range, the count, the total and the pairs are judged on the recipe plus the bath,
--- the cost on the recipe alone
+-- whether a recipe breaks a limit. The range, the count, the total and the pairs are judged on the
+-- recipe plus the bath, the cost on the recipe alone
 abbrev pub breaks : List DyeCost → LimitsView → Limit → List ℕ → Bool
 breaks dyes limits Range steps = any_outside dyes (with_bath limits.bath steps) (with_bath limits.bath steps)
 breaks dyes limits Count steps = nat_lt limits.max_dyes (dyes_used (with_bath limits.bath steps))
@@ -75,8 +78,9 @@ breaks dyes limits Total steps = nat_lt limits.max_total (units_of dyes (with_ba
 breaks dyes limits Pair steps = list_any (has_both (with_bath limits.bath steps)) limits.pairs
 breaks dyes limits Ceiling steps = is_above limits.max_cost (cost_of dyes steps)
 
--- whether a limit excludes all recipes of the box from low to high: the range does where some dye is outside it for all its
--- numbers of steps, and each other limit where the lowest recipe of the box breaks it
+-- whether a limit excludes all recipes of the box from low to high: the range does where it is
+-- broken in one way throughout (see `is_outside`), and each other limit where the lowest recipe of
+-- the box breaks it
 abbrev pub excludes_box : List DyeCost → LimitsView → Limit → (low high : List ℕ) → Bool
 excludes_box dyes limits Range low high = any_outside dyes (with_bath limits.bath low) (with_bath limits.bath high)
 excludes_box dyes limits Count low high = breaks dyes limits Count low

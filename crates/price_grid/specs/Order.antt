@@ -12,7 +12,8 @@ pub record KeyView : Type 0 where
   pub cost : ℕ
   pub steps : List ℕ
 
--- the cheaper recipe is first, and of two with the same cost the one with fewer steps of the first dye in which they differ
+-- the cheaper recipe is first, and of two with the same cost the one with fewer steps of the first
+-- dye in which they differ
 abbrev pub key_cmp : KeyView → KeyView → Ordering
 key_cmp a b = ordering_then (nat_cmp a.cost b.cost) (slice_cmp nat_cmp a.steps b.steps)
 

@@ -7,7 +7,8 @@ use Rattle.price_grid.specs.declared.dye_cost.DyeCost.{DyeCost}
 abbrev pub is_comma : ℕ → Bool
 is_comma byte = byte == 44
 
--- the steps of a dye that a text spells: one to four digits, leading zeros allowed, and up to the most steps of the dye
+-- the steps of a dye that a text spells: one to four digits, leading zeros allowed, and up to the
+-- most steps of the dye
 abbrev pub steps_of_dye : DyeCost → List ℕ → Option ℕ
 steps_of_dye dye text = option_and_then (λ n. if nat_le n dye.most then Some n else None) (whole_number 4 text)
 

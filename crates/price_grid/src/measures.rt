@@ -31,7 +31,8 @@ fn is_outside(dye: &DyeCost, low: u16, high: u16) -> bool
     low > dye.most || (low > 0 && high < dye.least)
 }
 
-/// Whether some dye is outside its range for all its numbers of steps from `low` to `high`.
+/// Whether some dye is above its most steps for all its numbers of steps from `low` to `high`, or
+/// is used with fewer than its least for all of them.
 pub(crate) fn any_outside(dyes: &[DyeCost], low: &[u16], high: &[u16]) -> bool
     requires low { length low.now ≡ length dyes.now }
     requires high { length high.now ≡ length dyes.now }

@@ -6,8 +6,8 @@ ghost use Rattle.price_grid.specs.Order.{key_cmp, key_view};
 use crate::grid::Steps;
 use std::cmp::Ordering;
 
-/// The cost of a recipe with its steps. Keys are ordered by cost and then by steps, from the first
-/// dye on.
+/// The steps of a recipe with their cost. Keys are ordered by cost and then by steps, from the
+/// first dye on.
 #[derive(Debug, Drop, PartialEq, Eq, PartialOrd, Ord)]
 pub struct Key {
     /// The cost, in the cost units of the prices.

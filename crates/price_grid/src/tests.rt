@@ -9,7 +9,7 @@ use arrayvec::ArrayVec;
 use std::cmp::Ordering;
 use std::test::Fail;
 
-// Two dyes of 10 units a step at 3 cost units, the second one with a fee of 7.
+// Two dyes with steps of 10 units, at 3 cost units a unit; the second one has a fee of 7.
 fn two_dyes() -> Grid {
     let first = DyeCost {
         step: 10,

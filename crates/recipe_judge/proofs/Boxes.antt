@@ -1,5 +1,5 @@
--- Recipes of a job, and boxes of recipes from low to high steps of each dye, can be mixed: a box is no stronger than all dyes
--- at their most steps.
+-- Recipes of a job, and boxes of recipes from low to high steps of each dye, can be mixed: a box is
+-- no stronger than all dyes at their most steps.
 use Rattle.std.proofs.Common.{◌≡◌, ◌∙◌, ◌+◌, ◌*◌, ◌^◌, ◌≤◌, ◌<◌, ◌||◌, ◌≤ℤ◌, ℕ, ℤ, pos, Bool, true, false, Option, Some, None, List, [], ◌∷◌, All, IfSome, length, map, refl, sym, subst, arith}
 use Rattle.std.specs.Prelude.{int_lt}
 use Rattle.std.specs.List.{AllZip, list_any}

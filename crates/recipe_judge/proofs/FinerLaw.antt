@@ -1,4 +1,5 @@
--- The law of the differences of recipes: a chain of the laws of the base, of mixing, of spectra and of the difference.
+-- The law of the differences of recipes: a chain of the laws of the base, of mixing, of spectra and
+-- of the difference.
 use Rattle.std.proofs.Common.{◌*◌, ◌^◌, ◌≤◌, ◌<◌, ◌*ℤ◌, ℕ, pos, List, [], ◌∷◌, All, arith}
 use Rattle.std.specs.List.{AllZip}
 use Rattle.std.proofs.lemmas.List.Elements.{All-cons, All-tail}

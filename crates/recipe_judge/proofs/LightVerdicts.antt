@@ -1,4 +1,5 @@
--- The verdict on all lights names the first light that fails, and so determines how a box is judged.
+-- The verdict on all lights names the first light that fails, and so determines how a box is
+-- judged.
 use Rattle.std.proofs.Common.{◌≡◌, ◌+◌, ◌*◌, ◌<◌, ◌≤◌, ◌*ℤ◌, ◌∙◌, ◌↔◌, ℕ, zero, suc, pos, Bool, true, false, Some, None, is_some, List, [], ◌∷◌, All, length, refl, ap, int_le, if◌then◌else◌, arith}
 use Rattle.std.specs.Prelude.{slice_get}
 use Rattle.std.specs.List.{AllZip}
@@ -19,7 +20,8 @@ is_failing Pass = false
 is_failing (Fail light) = true
 is_failing Undecided = false
 
--- where the ends are in order, the verdict under one light is to fail exactly where the lower end is above the tolerance
+-- where the ends are in order, the verdict under one light is to fail exactly where the lower end
+-- is above the tolerance
 pub verdict_fails : (n t number : ℕ) (d : Ends) → IsOrdered d → light_verdict n t number d ≡ Fail number → is_fail n t d ≡ true
 unfolding light_verdict
 verdict_fails n t number d ordered = by (int_le (pos 1000 *ℤ d.hi) (pos (t * n))) (is_fail n t d) refl where

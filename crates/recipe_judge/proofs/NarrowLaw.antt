@@ -1,5 +1,6 @@
--- The law of boxes: the differences over a box enclose those over each box within it, at the base scale and at every finer
--- one. It is a chain of the laws of mixing, of spectra and of the difference at one scale.
+-- The law of boxes: the differences over a box enclose those over each box within it, at the base
+-- scale and at every finer one. It is a chain of the laws of mixing, of spectra and of the
+-- difference at one scale.
 use Rattle.std.proofs.Common.{◌≡◌, ◌*◌, ◌^◌, ◌≤◌, ◌<◌, ◌∙◌, ℕ, List, [], ◌∷◌, All, length, sym, subst, arith}
 use Rattle.std.specs.List.{AllZip}
 use Rattle.std.proofs.lemmas.List.Elements.{All-tail}

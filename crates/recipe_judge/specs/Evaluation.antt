@@ -1,6 +1,6 @@
--- The evaluation of the recipes of a job, at every scale n: their spectrum, and their differences from the standard under
--- the lights. It is defined for all recipes of a box together, those from low to high steps of each dye. One recipe is the
--- box whose low and high steps are both its steps.
+-- The evaluation of the recipes of a job, at every scale n: their spectrum, and their differences
+-- from the standard under the lights. It is defined for all recipes of a box together, those from
+-- low to high steps of each dye. One recipe is the box whose low and high steps are both its steps.
 use Rattle.std.specs.Prelude.{ℕ, List, [], ◌∷◌, map}
 use Rattle.interval_specs.specs.Ends.{Ends}
 use Rattle.cmc_specs.specs.Cmc.{cmc_at}
@@ -12,11 +12,13 @@ use Rattle.mix_model.specs.Mixture.{mixed_at, portions}
 use Rattle.spectral_tables.specs.Spectrum.{spectrum_at}
 use Rattle.spectral_tables.specs.WeightTable.{WeightTable}
 
--- the reflectances of the dyes on the cloth of the batch, or on the undyed cloth if there is no batch
+-- the reflectances of the dyes on the cloth of the batch, or on the undyed cloth if there is no
+-- batch
 abbrev pub spectrum_of : ℕ → ResolvedJob → (low high : List ℕ) → List Ends
 spectrum_of n r low high = mixed_at n (base_at n (base_curve r.substrate r.batch)) (portions r.dyes low high)
 
--- the CMC(l:c) difference of a sample from the standard, each given by its spectrum, under a light with these weights
+-- the CMC(l:c) difference of a sample from the standard, each given by its spectrum, under a light
+-- with these weights
 abbrev pub difference_of_light : ℕ → (standard : List Ends) → JobLight → WeightTable → (sample : List Ends) → Ends
 difference_of_light n standard light weights sample = difference_under (cmc_at light.l10 light.c10) weights n standard sample
 

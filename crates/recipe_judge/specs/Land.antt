@@ -18,7 +18,8 @@ abbrev pub over_batch : LimitsView → Option JobBatch → LimitsView
 over_batch limits None = limits
 over_batch limits (Some batch) = with_new_bath limits batch.steps.items
 
--- what holds of a job whose recipes can be judged: its curves and weights were found, and its parts are in their ranges
+-- what holds of a job whose recipes can be judged: its curves and weights were found, and its parts
+-- are in their ranges
 pub record IsLand (r : ResolvedJob) : Type 0 where
   pub found : IsResolved r
   pub grid : IsGrid r.grid
@@ -26,7 +27,8 @@ pub record IsLand (r : ResolvedJob) : Type 0 where
   pub base : IsBase (10 ^ 12) (base_at (10 ^ 12) (base_curve r.substrate r.batch))
   pub weights : All IsWeightTable r.weights
 
--- the limits, the base, and the tolerances of the lights and the differences under them are those of the job
+-- the limits, the base, and the tolerances of the lights and the differences under them are those
+-- of the job
 pub record KeepsLand (r : ResolvedJob) (limits : LimitsView) (base : List Ends) (of_lights : List ℕ) (deltas : List Ends → List Ends) : Type 0 where
   pub is_land : IsLand r
   pub limits_are : limits ≡ over_batch r.limits r.job.batch

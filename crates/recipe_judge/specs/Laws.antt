@@ -15,8 +15,8 @@ EnclosesFinerOf r low high = (m : ℕ) → 0 < m → AllZip (Encloses m) (differ
 abbrev pub DifferencesEnclose : Type 0
 DifferencesEnclose = (r : ResolvedJob) (low high : List ℕ) → IsLand r → IsUpTo low high → IsRecipe r.grid high → EnclosesFinerOf r low high
 
--- at the base scale and at every finer one, the differences of the recipes of a box enclose those of every box within it,
--- and so those of each of its recipes
+-- at the base scale and at every finer one, the differences of the recipes of a box enclose those
+-- of every box within it, and so those of each of its recipes
 abbrev pub DifferencesNarrow : Type 0
 DifferencesNarrow =
     (r : ResolvedJob) (m : ℕ) (low high low' high' : List ℕ) → 0 < m → IsLand r → IsRecipe r.grid high → IsUpTo low low' → IsUpTo low' high' → IsUpTo high' high

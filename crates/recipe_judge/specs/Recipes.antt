@@ -1,5 +1,5 @@
--- The recipes of a job as a landscape: their box, costs and verdicts, and which limits exclude a box of them and which
--- lights fail on it, all at the base scale.
+-- The recipes of a job as a landscape: their box, costs and verdicts, and which limits exclude a
+-- box of them and which lights fail on it, all at the base scale.
 use Rattle.std.specs.Prelude.{◌*◌, ◌^◌, ℕ, zero, suc, pos, ◌*ℤ◌, Bool, true, false, int_lt, Option, Some, None, List, [], ◌∷◌, length, map}
 use Rattle.interval_specs.specs.Ends.{Ends}
 use Rattle.box_specs.specs.declared.judged.Judged.{Judged}
@@ -48,7 +48,8 @@ failing_light Pass = None
 failing_light (Fail light) = Some light
 failing_light Undecided = None
 
--- how a box that no limit excludes is judged, from the verdict on its recipes together, and whether it is a single recipe
+-- how a box that no limit excludes is judged, from the verdict on its recipes together, and whether
+-- it is a single recipe
 abbrev pub judged_from : Verdict → (alone : Bool) → Judged
 judged_from (Fail light) alone = judged.Fail light
 judged_from Pass false = judged.StillOpen

@@ -20,9 +20,9 @@ use price_grid::{Grid, Limits, Steps};
 use std::alloc::{AllocError, Global};
 use std::marker::Model;
 
-/// The recipes of a job, with what is computed once to judge any of them: the limits over the bath,
-/// the K/S of the cloth that the dyes are added to, and the lights with the colour of the standard
-/// under each.
+/// The recipes of a job, with what is computed once to judge any of them: the limits, with what is
+/// in the bath counted, the K/S of the cloth that the dyes are added to, and the lights with the
+/// colour of the standard under each.
 #[derive(Drop)]
 pub struct RecipeLand {
     pub(crate) resolved: Resolved,
@@ -69,7 +69,8 @@ fn grid_of(resolved: &Resolved) -> &Grid
 }
 
 impl RecipeLand {
-    /// The recipes of a job whose curves and weights were found. The error is that memory ran out.
+    /// The recipes of a job whose curves and weights were found. It takes no memory, so it always
+    /// succeeds.
     pub fn of_job(_alloc: Global, resolved: Resolved) -> Result<RecipeLand, AllocError>
         ensures is { IfOk result (λ l. l ≡ resolved_view resolved) }
         ensures held { IfOk result IsLand }

@@ -31,7 +31,8 @@ fn all_recipes(grid: &Grid) -> BoxR
     BoxR { lo, hi }
 }
 
-/// How a box is judged: from the verdict on all its recipes, and whether it is a single recipe.
+/// How a box that no limit excludes is judged: from the verdict on all its recipes together, and
+/// whether it is a single recipe.
 fn judged_from(verdict: Verdict, alone: bool) -> Judged
     ensures { result ≡ judged_from verdict alone }
 {

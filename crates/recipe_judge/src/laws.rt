@@ -20,7 +20,8 @@ pub fn boxes()
     ensures { DifferencesEnclose }
 {}
 
-/// The law of boxes: the differences over a box enclose those of each recipe in it, at one scale.
+/// The law of boxes: at the base scale and at each finer one, the differences over a box enclose
+/// those over every box inside it, and so those of each of its recipes.
 pub fn narrower()
     ensures { DifferencesNarrow }
 {}

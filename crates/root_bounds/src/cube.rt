@@ -94,7 +94,7 @@ fn cbrt_above(root: u128, x: u128) -> u128
 }
 
 /// The least number whose cube is at least x, from the greatest whose cube is at most `low`: where
-/// the two are equal, no second root is taken.
+/// x is `low`, no second root is taken.
 pub(crate) fn cbrt_above_end(root: u128, low: u128, x: u128) -> u128
     requires small { root < 2 ^ 43 }
     requires fits { root * root * root ≤ low }

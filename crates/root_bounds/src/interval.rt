@@ -43,8 +43,7 @@ fn times_unit<S: Scale>(end: i128) -> u128
     end as u128 * u128::from(unit::<S>())
 }
 
-/// The number under the cube root of an end: the end, which is not below 0, times the square of the
-/// scale's unit.
+/// The number under the cube root of an end: its magnitude times the square of the scale's unit.
 fn times_unit_twice<S: Scale>(end: i128) -> u128
     requires { unsigned_abs end ≤ 10 * S.unit }
     ensures { result ≡ unsigned_abs end * (S.unit * S.unit) }
@@ -52,8 +51,8 @@ fn times_unit_twice<S: Scale>(end: i128) -> u128
     cbrt_radicand::<S>(end.unsigned_abs())
 }
 
-/// The number whose whole cube root is the cube root of `t` parts of the scale, counted in parts:
-/// `t` times the square of the scale's unit.
+/// `t` times the square of the scale's unit: its cube root is that of `t` parts of the scale,
+/// counted in parts.
 pub fn cbrt_radicand<S: Scale>(t: u128) -> u128
     requires { t ≤ 10 * S.unit }
     ensures { result ≡ t * (S.unit * S.unit) }

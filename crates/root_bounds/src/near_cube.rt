@@ -7,7 +7,7 @@ use crate::words::{high_product, low_word};
 /// this is not proved.
 #[inline(always)]
 pub(crate) fn near_cube_root(x: u128) -> u64 {
-    // x is v * 8^third with v from 1/8 to 1
+    // x is v * 8^third with v from 1/8 to 1, or 0 where x is 0
     let third = (130 - (x | 1).leading_zeros()) / 3;
     near_root(head_of(x, 3 * third)).wrapping_shr(64_u32.wrapping_sub(third))
 }

@@ -37,9 +37,9 @@ fn near_long_root(x: u128) -> u64 {
     root.wrapping_add(more).wrapping_shr(shift / 2)
 }
 
-/// The square root of v times 2^64 and its reciprocal times 2^31, where v lies from 1/4 to 1. Both
-/// are a little too small: the root by at most 2^-46 of its value, the reciprocal by 2^-23 of its
-/// own.
+/// The numbers `2^64 sqrt(v)` and `2^31 / sqrt(v)`, where v lies from 1/4 to 1 (or is 0, and then
+/// only the root counts). Both are a little too small: the root by at most 2^-46 of its value, the
+/// reciprocal by 2^-23 of its own.
 #[derive(Clone, Copy)]
 struct Near {
     root: u64,

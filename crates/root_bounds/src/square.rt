@@ -64,7 +64,7 @@ fn sqrt_above(root: u128, x: u128) -> u128
 }
 
 /// The least number whose square is at least x, from the greatest whose square is at most `low`:
-/// where the two are equal, no second root is taken.
+/// where x is `low`, no second root is taken.
 pub(crate) fn sqrt_above_end(root: u128, low: u128, x: u128) -> u128
     requires small { root < 2 ^ 64 }
     requires fits { root * root ≤ low }

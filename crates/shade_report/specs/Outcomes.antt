@@ -1,4 +1,4 @@
--- The texts of the result of a search, and of an accepted certificate.
+-- The texts of the result of a search, of an accepted certificate, and of the summary of a search.
 use Rattle.std.specs.Prelude.{ℕ, ◌+◌, List, [], ◌∷◌, ◌++◌, codes, decimal, flat_map, length, Option, Some, None, IsNone, IsSome}
 use Rattle.box_specs.specs.declared.certificate.Claim.{Claim}
 use Rattle.box_specs.specs.declared.certificate.Claim.TheVariants.{Floor, Match, NoMatch}
@@ -62,8 +62,9 @@ cost_text (Match recipe) (Some cost) = count_line (codes "cost ") cost
 cost_text NoMatch cost = []
 cost_text (Floor floor) cost = count_line (codes "floor ") floor
 
--- the summary of a search for the job with a number, from its claim, the numbers of listed recipes, of lines of the tree and of
--- judged boxes, and the cost of a match. The text of the certificate has three lines more than the list and the tree
+-- the summary of a search among the recipes of the job with a number, from its claim, the numbers
+-- of listed recipes, of lines of the tree and of judged boxes, and the cost of a match. The text of
+-- the certificate has three lines more than the list and the tree
 unfoldable pub demo_text : ℕ → Claim → (listed lines boxes : ℕ) → Option ℕ → List ℕ
 demo_text number claim listed lines boxes cost =
     count_line (codes "demo ") number ++ head_text claim boxes ++ cost_text claim cost ++ count_line (codes "undecided ") listed

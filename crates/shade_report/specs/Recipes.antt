@@ -8,8 +8,8 @@ use Rattle.metamerism.specs.declared.outcomes.Verdict.{Verdict}
 use Rattle.metamerism.specs.declared.outcomes.Verdict.TheVariants.{Fail, Pass, Undecided}
 use Rattle.shade_report.specs.declared.shown.Shown.{Shown}
 
--- a recipe with the values that a report shows of it: its steps, its cost, its differences under the lights, the verdict on each
--- of them, and the verdict on all lights
+-- a recipe with the values that a report shows of it: its steps, its cost, its differences under
+-- the lights, the verdict on each of them, and the verdict on all lights
 pub record RecipeValues : Type 0 where
   pub steps : List ℕ
   pub cost : ℕ
@@ -26,8 +26,8 @@ verdict_name Pass = codes "pass"
 verdict_name (Fail number) = codes "fail"
 verdict_name Undecided = codes "undecided"
 
--- a dye with n steps, for a load in kilograms. A unit is a thousandth of a percent of the cloth's weight, which is a hundredth of
--- a gram for each kilogram
+-- a dye with n steps, for a load in kilograms. A unit is a thousandth of a percent of the cloth's
+-- weight, which is a hundredth of a gram for each kilogram
 unfoldable pub dye_text : ℕ → JobDye → ℕ → List ℕ
 dye_text load dye n =
     codes "dye " ++ dye.name ++ codes " steps " ++ decimal n ++ codes " percent " ++ fixed_text 3 (pos (n * dye.step))

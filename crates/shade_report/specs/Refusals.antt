@@ -1,4 +1,4 @@
--- The texts of refusals, one line each but for the usage text.
+-- The texts of refusals: one line each, but for the usage text and where a name has a line feed.
 use Rattle.std.specs.Prelude.{ℕ, List, [], ◌∷◌, ◌++◌, codes, decimal, Option, Some, None}
 use Rattle.spectral_tables.specs.declared.fault.TableFault.{TableFault}
 use Rattle.spectral_tables.specs.declared.fault.TableRule.{TableRule}

@@ -7,7 +7,7 @@ use crate::lines::push_line;
 use box_core::Claim;
 use std::alloc::AllocError;
 
-/// The first line of a search's report: what it found.
+/// What a search found, as a line of its report or of a summary, without the line feed.
 fn claim_name(claim: &Claim) -> &'static str
     ensures { result.now ≡ claim_name claim.now }
 {

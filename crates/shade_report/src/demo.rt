@@ -1,4 +1,4 @@
-//! The summary of a search for a job that is generated from a number.
+//! The summary of a search among the recipes of a job that is generated from a number.
 
 ghost use Rattle.std.specs.Prelude.{◌≡◌, ◌++◌, IfOk, OnOk, length};
 ghost use Rattle.shade_report.specs.Outcomes.{GoesWith, cost_text, demo_text};
@@ -26,9 +26,9 @@ fn push_cost(text: &mut Vec<u8>, claim: &Claim, cost: Option<u64>) -> Result<(),
     }
 }
 
-/// The summary of a search for the job with a number: what it found, how many boxes it judged, the
-/// cost of a match or the floor, how many recipes are listed, how many lines the text of the
-/// certificate has, and that the certificate was accepted.
+/// The summary of a search among the recipes of the job with a number: what it found, how many
+/// boxes it judged, the cost of a match or the floor, how many recipes are listed, how many lines
+/// the text of the certificate has, and that the certificate was accepted.
 #[tactic(auto, unfolding(crate::specs::Outcomes::demo_text))]
 pub fn demo_text(
     alloc: Global,

@@ -1,6 +1,6 @@
-//! What the program prints: the texts of a recipe, of the result of a search and of an accepted
-//! certificate, the text of each refusal as a function of the refusal, and the call that puts the
-//! text of a refusal into a sink.
+//! Texts that the program prints: those of a recipe, of the result of a search, of an accepted
+//! certificate, of the summary of a search, and of each refusal, with the call that puts the text
+//! of a refusal into a sink.
 #![tactic(auto)]
 
 mod claims;

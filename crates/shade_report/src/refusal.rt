@@ -16,7 +16,8 @@ use price_grid::LimitNo;
 use shelf_io::{Failed, Sink};
 use spectral_tables::TableFault;
 
-/// Why a command has no report. A text in it is the name of a file, or a word of the command line.
+/// Why a command prints no report. A text in it is the name of a file, or a word of the command
+/// line.
 #[derive(Clone, Copy, Debug)]
 pub enum Refusal<'a> {
     /// The words are none of the forms of a command.
@@ -131,7 +132,8 @@ fn put_steps<O: Sink>(out: &mut O, limit: Option<LimitNo>) -> Result<(), Failed>
     }
 }
 
-/// Puts the refusal of a certificate: the line, and the rule that it breaks.
+/// Puts the refusal of a certificate: the line, and the rule that it breaks or the reason why it
+/// does not hold.
 fn put_cert<O: Sink>(out: &mut O, line: u32, rule: &str) -> Result<(), Failed>
     ensures { Puts (cert_text line rule.now) result (O.view out.old) (O.view out.new) }
 {

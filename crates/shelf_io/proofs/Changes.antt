@@ -1,4 +1,5 @@
--- A change of the file under one name, or of none, and what it leaves unchanged of the file under any name.
+-- A change of the file under one name, or of none, and what it leaves unchanged of the file under
+-- any name.
 use Rattle.std.proofs.Common.{◌≡◌, ◌≢◌, ◌≤◌, ℕ, Bool, true, false, Option, Some, None, List, option_map, if◌then◌else◌, is_some, IsSome, Result, Ok, Err, OnErr, OnOk, is_err, refl, sym, ap, ◌∙◌, subst, arith}
 use Rattle.std.specs.Option.{option_map_or}
 use Rattle.std.specs.Str.{bytes_eq}

@@ -1,4 +1,5 @@
--- The files of a shelf in memory: which file is at an index, and that a change of one file leaves the others unchanged.
+-- The files of a shelf in memory: which file is at an index, and that a change of one file leaves
+-- the others unchanged.
 use Rattle.std.proofs.Common.{◌≡◌, ◌+◌, ℕ, Bool, true, false, Option, Some, None, List, [], ◌∷◌, ◌++◌, get_or, option_map, if◌then◌else◌, is_some, refl, sym, ap, ◌∙◌, subst, add-one}
 use Rattle.std.proofs.Math.ListN.{set}
 use Rattle.std.specs.Str.{bytes_eq}

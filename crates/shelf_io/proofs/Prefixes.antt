@@ -26,7 +26,8 @@ prefix_more : (contents : Option Contents) (name prefix into : List ℕ) (count 
 prefix_more None name prefix into count f r = tt
 prefix_more (Some c) name prefix into count f r = prefix_of_file (c.file name) prefix into count f r
 
--- one turn of the loop: the bytes that a read put at the beginning of a buffer are appended to those read before
+-- one turn of the loop: the bytes that a read put at the beginning of a buffer are appended to
+-- those read before
 pub step_prefix : (known between : Option Contents) (name prefix into tail after : List ℕ) (offset count : ℕ) → between ≡ known → offset ≡ length prefix → count ≤ length into → after ≡ prefix ++ take count (into ++ tail) → IsKnownPrefix known name prefix → Reads {E = Failed} between name offset (Ok count) into → IsKnownPrefix known name after
 step_prefix known between name prefix into tail after offset count same at most e f r =
     let P : Option Contents → Type 0 = λ c. Reads {E = Failed} c name offset (Ok count) into in

@@ -47,7 +47,8 @@ shared_grows false shared = grows_one shared
 reads_are : (s : ShelfState) (name : List ℕ) (offset size : ℕ) (n : List ℕ) → shelf_reads (read_after s name offset size) n ≡ option_map_or (λ f. f.reads) (file_after true (bytes_eq n name) (change s name offset size) (held_under n s.files)) (shared_after s name)
 reads_are s name offset size n = ap (λ u. option_map_or (λ f. f.reads) u (shared_after s name)) (read_under s name offset size n)
 
--- the file under the name that is read: a failure raises its count, and a success leaves it unchanged
+-- the file under the name that is read: a failure raises its count, and a success leaves it
+-- unchanged
 fails_held : (scheduled : Bool) (u : Option Held) → (scheduled || not (is_some u)) ≡ false → IsSome u
 fails_held true u h = absurd (false≢true (sym h))
 fails_held false (Some f) h = refl

@@ -1,4 +1,5 @@
--- A create followed by appends, as one change of the contents, for callers that write a file in pieces.
+-- A create followed by appends, as one change of the contents, for callers that write a file in
+-- pieces.
 use Rattle.std.proofs.Common.{◌≡◌, ◌-◌, ◌≤◌, ℕ, Bool, true, false, Option, Some, None, List, [], ◌++◌, length, option_map, if◌then◌else◌, IsSome, IfSome, refl, sym, ap, ◌∙◌, subst, arith, length-append}
 use Rattle.std.specs.Option.{ForSome}
 use Rattle.std.specs.Str.{bytes_eq}

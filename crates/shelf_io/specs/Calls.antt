@@ -10,7 +10,8 @@ one_more count = if nat_lt count (2 ^ 64 - 1) then count + 1 else count
 abbrev pub count_more : ℕ → ℕ → ℕ
 count_more more count = min (count + more) (2 ^ 64 - 1)
 
--- the next call is scheduled to fail: calls are numbered from 1, and these are the numbers of those that fail
+-- the next call is scheduled to fail: calls are numbered from 1, and these are the numbers of those
+-- that fail
 abbrev pub is_scheduled : List ℕ → ℕ → Bool
 is_scheduled failing calls = list_any (λ number. number == calls + 1) failing
 
@@ -23,6 +24,7 @@ none_scheduled (number ∷ numbers) = false
 abbrev pub is_refused : Bool → ℕ → ℕ → Bool
 is_refused scheduled room size = scheduled || nat_lt room size
 
--- how many bytes of the piece are taken: all that fit, and at most half of it where the call is scheduled to fail
+-- how many bytes of the piece are taken: all that fit, and at most half of it where the call is
+-- scheduled to fail
 abbrev pub fitting : Bool → ℕ → ℕ → ℕ
 fitting scheduled room size = min room (if scheduled then size / 2 else size)

@@ -20,7 +20,7 @@ abbrev pub add_piece : List ℕ → List ℕ → Contents → Contents
 add_piece name piece c =
     record { file = λ n. if bytes_eq n name then option_map (λ bytes. bytes ++ piece) (c.file n) else c.file n; room = c.room - length piece }
 
--- the same contents, with these bytes under the name, written into the room
+-- the same contents, with these bytes under the name, and as much less room
 abbrev pub write_bytes : List ℕ → List ℕ → Contents → Contents
 write_bytes name bytes c = record { file = λ n. if bytes_eq n name then Some bytes else c.file n; room = c.room - length bytes }
 

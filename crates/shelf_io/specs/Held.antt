@@ -4,8 +4,8 @@ use Rattle.std.specs.List.{All}
 use Rattle.std.specs.Str.{bytes_eq}
 use Rattle.shelf_io.specs.Calls.{count_more, one_more}
 
--- a file: its name and bytes, how many bytes its buffer was made for, its counts of failed reads and writes, and how many
--- bytes reads handed out
+-- a file: its name and bytes, how many bytes its buffer was made for, its counts of failed reads
+-- and writes, and how many bytes reads handed out
 pub record Held : Type 0 where
   pub name : List ℕ
   pub bytes : List ℕ

@@ -6,8 +6,9 @@ use Rattle.shelf_io.specs.Contents.{Contents}
 use Rattle.shelf_io.specs.View.{ShelfView}
 use Rattle.shelf_io.specs.Held.{Held, held_under, change_under, with_bytes, with_failed_write, with_read, without_bytes, with_piece}
 
--- the files, the counts that all names which are not held share, the room for appended bytes, the number of slots for new
--- names, the most bytes that a read returns, how many calls there have been, and the numbers of the calls that fail
+-- the files, the counts that all names which are not held share, the room for appended bytes, the
+-- number of slots for new names, the most bytes that a read returns, how many calls there have
+-- been, and the numbers of the calls that fail
 pub record ShelfState : Type 0 where
   pub files : List Held
   pub shared_reads : ℕ
@@ -31,11 +32,12 @@ is_held s name = is_some (held_under name s.files)
 abbrev pub shelf_contents : ShelfState → Contents
 shelf_contents s = record { file = λ name. option_map (λ file. file.bytes) (held_under name s.files); room = s.room }
 
--- how many reads of the name failed
+-- the count of failed reads that applies to the name: that of its file, or the one that names
+-- without a file share
 abbrev pub shelf_reads : ShelfState → List ℕ → ℕ
 shelf_reads s name = option_map_or (λ file. file.reads) (held_under name s.files) s.shared_reads
 
--- how many writes of the name failed
+-- the count of failed writes that applies to the name, as for reads
 abbrev pub shelf_writes : ShelfState → List ℕ → ℕ
 shelf_writes s name = option_map_or (λ file. file.writes) (held_under name s.files) s.shared_writes
 
@@ -47,7 +49,8 @@ shelf_handed s name = option_map_or (λ file. file.handed) (held_under name s.fi
 abbrev pub promises_reads : ShelfState → List ℕ → Bool
 promises_reads s name = none_scheduled s.failing && is_held s name
 
--- no call is scheduled to fail, the name is held or there is a slot for it, and there is room for this many bytes
+-- no call is scheduled to fail, the name is held or there is a slot for it, and there is room for
+-- this many bytes
 abbrev pub promises_writes : ShelfState → List ℕ → ℕ → Bool
 promises_writes s name bytes = none_scheduled s.failing && (is_held s name || nat_lt 0 s.slots) && nat_le bytes s.room
 
@@ -80,7 +83,8 @@ abbrev pub read_size : ShelfState → List ℕ → (offset size : ℕ) → ℕ
 read_size s name offset size =
     min s.most (min size (option_map_or (λ file. length file.bytes - offset) (held_under name s.files) 0))
 
--- the shelf after the next call, a read of the name from the offset on into a buffer of `size` bytes
+-- the shelf after the next call, a read of the name from the offset on into a buffer of `size`
+-- bytes
 abbrev pub read_after : ShelfState → List ℕ → (offset size : ℕ) → ShelfState
 read_after s name offset size = record s {
   files = change_under name (with_read (read_fails s name) (read_size s name offset size)) s.files;
@@ -104,7 +108,8 @@ failed_write s name = record s {
 abbrev pub with_empty_file : ShelfState → List ℕ → ShelfState
 with_empty_file s name = record s { files = change_under name without_bytes s.files; calls = one_more s.calls }
 
--- the shelf after a call that used a slot for a new name, with the counts that names which are not held share
+-- the shelf after a call that used a slot for a new name, with the counts that names which are not
+-- held share
 abbrev pub with_new_file : ShelfState → List ℕ → ShelfState
 with_new_file s name = record s {
   files = s.files ++ record { name = name; bytes = []; reserved = s.room; reads = s.shared_reads; writes = s.shared_writes; handed = 0 } ∷ [];

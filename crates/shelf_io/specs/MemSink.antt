@@ -3,8 +3,8 @@ use Rattle.std.specs.Prelude.{◌-◌, ◌&&◌, ℕ, Bool, List, [], ◌∷◌,
 use Rattle.shelf_io.specs.View.{SinkView}
 use Rattle.shelf_io.specs.Calls.{one_more, is_scheduled, none_scheduled, is_refused, fitting}
 
--- the bytes taken, how many more it can take, its count of faults, how many calls of put there have been, and the
--- numbers of the calls that fail
+-- the bytes taken, how many more it can take, its count of faults, how many calls of put there have
+-- been, and the numbers of the calls that fail
 pub record SinkState : Type 0 where
   pub taken : List ℕ
   pub room : ℕ

@@ -13,13 +13,14 @@ abbrev pub Takes : {T E : Type 0} → List ℕ → Result T E → (old new : Opt
 Takes piece (Ok _) old new = new ≡ append_known old piece
 Takes piece (Err _) old new = AddsPrefix old new piece
 
--- where a promise covered the piece and `more` further bytes, the call did not fail, and the promise still covers those
--- further bytes
+-- where a promise covered the piece and `more` further bytes, the call did not fail, and the
+-- promise still covers those further bytes
 abbrev pub KeepsPromise : {T E : Type 0} → List ℕ → Result T E → (old new : SinkView) → Type 0
 KeepsPromise piece result old new =
     (more : ℕ) → IsTrue (old.puts_promised (length piece + more)) → IsOk result × IsTrue (new.puts_promised more)
 
--- a put of one piece, or of the pieces of one text: the bytes taken, the count of failures, and the promise
+-- a put of one piece, or of the pieces of one text: the bytes taken, the count of failures, and the
+-- promise
 pub record Puts {T E : Type 0} (piece : List ℕ) (result : Result T E) (old new : SinkView) : Type 0 where
   pub taken : Takes piece result old.taken new.taken
   pub counted : CountsFailure (is_err result) old.faults new.faults

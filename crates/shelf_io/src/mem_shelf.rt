@@ -14,9 +14,10 @@ mod writing;
 
 /// A shelf that keeps its files in memory.
 ///
-/// The room for bytes that can be appended, over all files, and the slots for new names are
-/// reserved when it is made, and no call gives them back. Calls of `read_at`, `create` and `append`
-/// are numbered together from 1, those that fail included.
+/// The room for appended bytes, over all files, and the slots for new names are fixed, and their
+/// memory is taken, when it is made; `put_file` takes memory for its file, too. Emptying a file
+/// gives no room back. Calls of `read_at`, `create` and `append` are numbered together from 1,
+/// those that fail included.
 #[derive(Debug, Drop)]
 pub struct MemShelf {
     alloc: Global,

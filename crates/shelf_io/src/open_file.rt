@@ -62,7 +62,7 @@ impl OpenFile {
         self.offset
     }
 
-    // Reads the next bytes. An interrupted read is tried again.
+    // Reads the next bytes. An interrupted read is tried again, up to 10,000 times in all.
     pub(crate) fn read(&mut self, into: &mut [u8]) -> io::Result<usize>
         ensures { IfOk result (λ count. count ≤ length into.new) }
     {

@@ -12,12 +12,14 @@ use std::rt::Files;
 /// The files of the system, by their paths. Contracts know nothing of their contents.
 ///
 /// It has one count of failed reads and one of failed writes, the same for every name. Each error
-/// of the system is a failure, except that an interrupted read or write is tried again.
+/// of the system is a failure, except that an interrupted read is tried up to 10,000 times, and an
+/// interrupted write again.
 ///
-/// The file that is read stays open, and a read of the same name at the offset where the last one
-/// ended continues in it. So a file that another program replaces meanwhile is read whole, either
-/// the old one or the new one, and a pipe can be read. A read at offset 0 opens the name anew. The
-/// file that is created or appended to stays open, too.
+/// The file that is read stays open. A read of the same name at the offset where the last one ended
+/// continues in it, where that offset is above 0 and the name has at most 255 bytes. So under such
+/// a name a file that another program replaces meanwhile is read whole, either the old one or the
+/// new one, and a pipe can be read. A read at offset 0 opens the name anew. The file that is
+/// created or appended to stays open, too.
 #[derive(Drop)]
 pub struct RealShelf<R> {
     rt: R,
@@ -42,7 +44,8 @@ impl<R: Files<File = File> + Drop> RealShelf<R> {
     }
 }
 
-// Reads from the offset on, in the open file where that is at this offset.
+// Reads from the offset on: in the open file where that has this name and is at this offset, which
+// is above 0; and else in the file opened anew.
 fn read<R: Files<File = File>>(
     rt: &R,
     reading: &mut Option<OpenFile>,

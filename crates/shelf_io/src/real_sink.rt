@@ -11,8 +11,9 @@ use std::io::Write;
 
 /// A sink that passes each piece on to a writer, for example to standard output.
 ///
-/// Each error of the writer is a failure. Its view as a sink says nothing of the bytes; the clause
-/// `written` of `put` says what it adds to those of the writer.
+/// Each error of the writer is a failure. The view of this sink says nothing of the bytes. The
+/// clause `written` of `put` says which bytes a call that does not fail adds to those of the
+/// writer.
 #[derive(Drop)]
 pub struct RealSink<W> {
     writer: W,

@@ -10,17 +10,18 @@ use crate::failed::Failed;
 
 /// A store of files by name.
 ///
-/// Each call counts its failures under the name that it is called with, reads and writes
-/// separately. A count never falls, and stays at `u64::MAX` once it has reached it.
+/// Each failed call raises the count that applies to the name that it is called with, that of reads
+/// or that of writes. A count never falls, and stays at `u64::MAX` once it has reached it.
 pub trait Shelf {
     // all that is known of the shelf
     ghost view: { Self → ShelfView };
 
-    /// How many reads of this name have failed so far.
+    /// The count of failed reads that applies to this name, which other names may share.
     fn read_faults(&self, name: &str) -> u64
         ensures { result ≡ (view self.now).read_faults name.now };
 
-    /// Copies bytes of the file from `offset` on to the beginning of `into`, and returns how many.
+    /// Copies the bytes of the file that begin at `offset` to the beginning of `into`, and returns
+    /// how many.
     ///
     /// It may return fewer than fit, but 0 only at or past the end of the file, or where `into` is
     /// empty. It fails with `Failed` where the name is not held, or where the reading itself fails.
@@ -33,7 +34,7 @@ pub trait Shelf {
             ((view self.old).read_faults name.now) ((view self.new).read_faults name.now) }
         ensures promised { IsTrue ((view self.old).reads_promised name.now) → IsOk result };
 
-    /// How many writes of this name have failed so far.
+    /// The count of failed writes that applies to this name, which other names may share.
     fn write_faults(&self, name: &str) -> u64
         ensures { result ≡ (view self.now).write_faults name.now };
 
@@ -51,7 +52,7 @@ pub trait Shelf {
             IsTrue ((view self.old).writes_promised name.now bytes) → IsOk result };
 
     /// Appends the piece to the bytes of a name that is held. After a failure, `Failed`, a prefix
-    /// of it has been appended.
+    /// of the piece has been appended.
     fn append(&mut self, name: &str, piece: &[u8]) -> Result<(), Failed>
         requires { ForSome (view self.old).contents (λ c. IsSome (c.file name.now)) }
 

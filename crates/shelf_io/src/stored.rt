@@ -164,7 +164,8 @@ impl Stored {
         self.bytes.clear();
     }
 
-    // Appends the piece to the bytes, and counts a failed write where the call fails.
+    // Appends the piece to the bytes, and counts a failed write where `fails`, that is where the
+    // call of the shelf fails.
     pub(crate) fn append(&mut self, piece: &[u8], fails: bool)
         requires { length self.old.bytes + length piece.now ≤ self.old.reserved }
         ensures { self.new ≡ with_piece fails piece.now self.old }

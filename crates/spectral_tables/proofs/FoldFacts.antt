@@ -1,4 +1,5 @@
--- Folded weights have one triple for each wavelength, and the magnitudes of no column add up to more than before.
+-- Folded weights have one triple for each wavelength, and the magnitudes of no column add up to
+-- more than before.
 use Rattle.std.proofs.Common.{◌≡◌, ◌+◌, ◌*◌, ◌≤◌, ◌<◌, ℕ, zero, suc, ℤ, pos, negsuc, ◌+ℤ◌, Bool, true, false, Ok, List, [], ◌∷◌, ◌++◌, length, take, drop, All, refl, sym, ap, ◌∙◌, leb-true, arith}
 use Rattle.std.specs.Prelude.{unsigned_abs, sum_by, IsTrue}
 use Rattle.std.proofs.lemmas.Int.{ints}

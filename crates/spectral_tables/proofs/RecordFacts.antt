@@ -1,4 +1,5 @@
--- The records that are read in turn are the records of the text, and none has more fields than the text has bytes, plus one.
+-- The records that are read in turn are the records of the text, and none has more fields than the
+-- text has bytes, plus one.
 use Rattle.std.proofs.Common.{◌≡◌, ◌+◌, ◌≤◌, ◌<◌, ◌||◌, ◌==◌, ℕ, zero, suc, Bool, true, false, if◌then◌else◌, List, [], ◌∷◌, ◌++◌, length, get_or, take, Option, Some, None, map, refl, sym, ap, subst, ◌∙◌, arith}
 use Rattle.std.proofs.lemmas.List.{length-append, take_all}
 use Rattle.std.proofs.lemmas.Bool.{true≢false}
@@ -54,7 +55,8 @@ step_ends st.AfterQuote c = either (c == 34) _ _ (goes_on st.InQuoted act.Copy r
 step_ends st.InComment c = either (c == 10) _ _ (goes_on st.StartRecord act.Skip refl) (goes_on st.InComment act.Skip refl)
 step_ends st.AfterCr c = either (c == 10) _ _ (goes_on st.StartRecord act.Skip refl) (start_record_ends c)
 
--- after a record is read: the state is between two records, and its fields and the bytes left are bounded
+-- after a record is read: the state is between two records, and its fields and the bytes left are
+-- bounded
 record Leaves (s : State) (before : List (List ℕ)) (xs : List ℕ) (p : Read) : Type 0 where
   fields : length p.0 + length p.2 ≤ length before + length xs + 1
   between : IsBetween p.1

@@ -1,4 +1,5 @@
--- Curve files: a header of names, and for each wavelength a record with a percentage under each name.
+-- Curve files: a header of names, and for each wavelength a record with a percentage under each
+-- name.
 use Rattle.std.specs.Prelude.{ℕ, ◌+◌, ◌*◌, Bool, not, ◌&&◌, ◌==◌, nat_lt, nat_le, List, [], ◌∷◌, ◌++◌, length, drop, map, codes, slice_index, Result, Ok, Err}
 use Rattle.std.specs.List.{list_any}
 use Rattle.std.specs.Str.{bytes_eq}
@@ -23,14 +24,16 @@ next_name before field = ensure 1 (length before + 2) NoHeader (is_name field) >
 abbrev pub next_different : List (List ℕ) → List ℕ → Result (List ℕ) TableFault
 next_different before name = ensure 1 (length before + 2) DoubleName (not (list_any (bytes_eq name) before)) >> Ok name
 
--- Row 1: `nm` and the names of the curves. All fields are checked to be names before any are compared.
+-- Row 1: `nm` and the names of the curves. All fields are checked to be names before any are
+-- compared.
 unfoldable pub names_of : List (List ℕ) → Result (List (List ℕ)) TableFault
 names_of fields =
     ensure 1 1 NoHeader (is_curve_header fields) >> (do
       names ← each next_name [] (drop 1 fields)
       each next_different [] names)
 
--- The reflectance that a field writes, in millionths: a percentage from 0.01 to 100 with up to four decimals.
+-- The reflectance that a field writes, in millionths: a percentage from 0.01 to 100 with up to four
+-- decimals.
 unfoldable pub reflectance_of : ℕ → ℕ → List ℕ → Result ℕ TableFault
 reflectance_of row column field = do
   number ← or_fault row column BadNumber (number_read (decimal_of 4 field))
@@ -39,8 +42,8 @@ reflectance_of row column field = do
 abbrev pub next_reflectance : ℕ → List ℕ → List ℕ → Result ℕ TableFault
 next_reflectance row before field = reflectance_of row (length before + 2) field
 
--- The reflectances of the record for the wavelength of index `wave`: the record has as many fields as the header, first
--- this wavelength and then a percentage in each further field.
+-- The reflectances of the record for the wavelength of index `wave`: the record has as many fields
+-- as the header, first this wavelength and then a percentage in each further field.
 unfoldable pub row_of : ℕ → ℕ → List (List ℕ) → Result (List ℕ) TableFault
 row_of columns wave fields =
     ensure (wave + 2) 1 BadWavelength (nat_lt wave 31)
@@ -51,7 +54,8 @@ row_of columns wave fields =
 abbrev pub next_row : ℕ → List (List ℕ) → List (List ℕ) → Result (List ℕ) TableFault
 next_row columns before fields = row_of columns (length before) (trimmed_fields fields)
 
--- The records after the header: the first is for 400 nm, each further one for 10 nm more, and the last for 700 nm.
+-- The records after the header: the first is for 400 nm, each further one for 10 nm more, and the
+-- last for 700 nm.
 unfoldable pub rows_of : ℕ → Table → Result (List (List ℕ)) TableFault
 rows_of columns records = do
   rows ← each (next_row columns) [] records

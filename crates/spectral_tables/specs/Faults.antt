@@ -34,18 +34,20 @@ abbrev pub or_fault : {A : Type 0} → ℕ → ℕ → TableRule → Option A �
 or_fault row column rule (Some x) = Ok x
 or_fault row column rule None = Err (fault row column rule)
 
--- The items read in turn, up to the first fault. The reader of an item is passed the values of the items before it.
+-- The items read in turn, up to the first fault. The reader of an item is passed the values of the
+-- items before it.
 abbrev pub each : {A B : Type 0} → (List A → B → Result A TableFault) → List A → List B → Result (List A) TableFault
 each read before [] = Ok before
 each read before (item ∷ items) = do
   value ← read before item
   each read (before ++ value ∷ []) items
 
--- The result of a function, seen through `view`, is that of the definition, unless memory ran out.
+-- a call that failed agrees with what the definition reads: the same fault, or memory ran out
 abbrev pub Fails : {Y : Type 0} → TableError → Result Y TableFault → Type 0
 Fails errors.Memory read = Unit {0}
 Fails (errors.Fault f) read = read ≡ Err f
 
+-- the result of a call, mapped by view, is what the definition reads, unless memory ran out
 abbrev pub Gives : {X Y : Type 0} → (X → Y) → Result X TableError → Result Y TableFault → Type 0
 Gives view (Ok x) read = read ≡ Ok (view x)
 Gives view (Err e) read = Fails e read

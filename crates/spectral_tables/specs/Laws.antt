@@ -1,4 +1,5 @@
--- The laws of spectra: they keep enclosing where the scale grows from n to m * n, and they lie in their range.
+-- The laws of spectra: at a scale n they enclose those at each multiple m * n, and they lie in
+-- their range.
 use Rattle.std.specs.Prelude.{◌*◌, ℕ, List, [], ◌∷◌}
 use Rattle.interval_specs.specs.Ends.{Ends}
 use Rattle.interval_specs.specs.Encloses.{Encloses}
@@ -12,7 +13,7 @@ EnclosesWaves m [] (b ∷ bs) = ⊥
 EnclosesWaves m (a ∷ as') [] = ⊥
 EnclosesWaves m (a ∷ as') (b ∷ bs) = Encloses m a b × EnclosesWaves m as' bs
 
--- the spectrum of a measured curve encloses the one at each finer scale
+-- the spectrum of a measured curve at a scale n encloses that at each multiple m * n
 abbrev pub SpectrumEncloses : Type 0
 SpectrumEncloses = (n m : ℕ) (curve : List ℕ) → EnclosesWaves m (spectrum_at n curve) (spectrum_at (m * n) curve)
 

@@ -10,7 +10,8 @@ use Rattle.spectral_tables.specs.Trim.{trimmed}
 abbrev pub Table : Type 0
 Table = List (List (List ℕ))
 
--- The records of a file. One byte order mark is removed here, and `csv` removes another one if there is one.
+-- The records of a file. One byte order mark is removed here, and `csv` removes another one if
+-- there is one.
 unfoldable pub records_of : List ℕ → Table
 records_of bytes = records default_config (strip_bom (strip_bom bytes))
 

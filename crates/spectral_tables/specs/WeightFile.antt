@@ -10,8 +10,8 @@ use Rattle.spectral_tables.specs.WeightTable.{Triple, WeightTable, IsTriple, at_
 use Rattle.spectral_tables.specs.Fold.{fold_of}
 use Rattle.spectral_tables.specs.Run.{Rows, no_rows, following_row, reaches_end, due_wavelength, rows_with}
 
--- The weight or the white value that a field writes, in units of 0.00001: a number with up to five decimals, of at most
--- 1,000 in magnitude. A white value is above 0.
+-- The weight or the white value that a field writes, in units of 0.00001: a number with up to five
+-- decimals, of at most 1,000 in magnitude. A white value is above 0.
 unfoldable pub weight_of : Bool → ℕ → ℕ → List ℕ → Result ℤ TableFault
 weight_of is_white row column field = do
   number ← or_fault row column BadNumber (number_read (decimal_of 5 field))

@@ -1,4 +1,5 @@
--- Weights for the tristimulus values X, Y and Z (ASTM E308): three numbers for each wavelength, and three for white.
+-- Weights for the tristimulus values X, Y and Z (ASTM E308): three numbers for each wavelength, and
+-- three for white.
 use Rattle.std.specs.Prelude.{◌≡◌, ◌*◌, ◌<◌, ◌≤◌, ◌^◌, ℕ, ℤ, pos, ◌+ℤ◌, ◌<ℤ◌, List, [], ◌∷◌, All, length, slice_index_or, sum_by, unsigned_abs}
 use Rattle.spectral_tables.specs.Curve.{IsWaveCount}
 
@@ -6,7 +7,7 @@ use Rattle.spectral_tables.specs.Curve.{IsWaveCount}
 abbrev pub Triple : Type 0
 Triple = List ℤ
 
--- the number of a column: 0 for X, 1 for Y, 2 for Z
+-- the number that a triple has in a column: column 0 is X, 1 is Y, 2 is Z
 abbrev pub at_column : ℕ → Triple → ℤ
 at_column column triple = slice_index_or triple column (pos 0)
 
@@ -45,6 +46,7 @@ pub record IsWeightTable (w : WeightTable) : Type 0 where
   pub white : length w.white ≡ 3
   pub columns : (column : ℕ) → column < 3 → IsBalanced w column
 
--- a list has an item for each wavelength of the weights, provided that these satisfy their invariant
+-- a list has an item for each wavelength of the weights, provided that these satisfy their
+-- invariant
 abbrev pub HasItemEachWave : {A : Type 0} → WeightTable → List A → Type 0
 HasItemEachWave w items = IsWeightTable w → length items ≡ length w.weights

@@ -68,7 +68,7 @@ fn all_different(names: &[&[u8]]) -> Result<(), TableFault>
     Ok(())
 }
 
-/// The names of the header's fields.
+/// The names of the curves: the fields of the header after `nm`.
 #[tactic(auto, unfolding(crate::specs::CurveFile::names_of))]
 pub(crate) fn names_of<'a>(alloc: Global, fields: &[&'a [u8]]) -> Result<Vec<&'a [u8]>, TableError>
     ensures is { Gives (λ v. map (λ n. n.now) v.items) result

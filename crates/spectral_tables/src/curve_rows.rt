@@ -16,7 +16,7 @@ use crate::records::fields_of;
 use csv::ByteRecord;
 use std::alloc::Global;
 
-/// The percentage of a field, in millionths.
+/// The reflectance in millionths that a field writes in percent: 6.5 percent is 65,000.
 #[tactic(auto, unfolding(crate::specs::CurveFile::reflectance_of))]
 fn reflectance(cell: Cell, field: &[u8]) -> Result<u32, TableFault>
     ensures is { result ≡ reflectance_of cell.row cell.column field.now }

@@ -9,13 +9,15 @@ use thiserror::Error;
 /// The rule that a table breaks.
 #[derive(Clone, Copy, Debug, PartialEq, Eq)]
 pub enum TableRule {
-    /// The first record is not a header.
+    /// There is no record, or the first one is not a header.
     NoHeader,
-    /// The record of the wavelength that must follow is missing, or another record follows.
+    /// The record of the wavelength that must follow is missing, or there is a record that must not
+    /// follow.
     BadWavelength,
-    /// A record has a number of fields other than the header.
+    /// A record has not as many fields as the header.
     WrongCount,
-    /// A field is not a decimal number with at most the decimals that it may have.
+    /// A field is not a decimal number, has a digit other than 0 after the last decimal place that
+    /// it may have, or is above 10^15 in units of that place.
     BadNumber,
     /// A number is below or above its range.
     OutOfRange,
@@ -32,7 +34,7 @@ pub enum TableRule {
 /// The first fault of a table.
 #[derive(Clone, Copy, Debug, PartialEq, Eq)]
 pub struct TableFault {
-    /// The number of the record, from 1.
+    /// The number of the record, from 1. A missing record has the number that it would have.
     pub row: u32,
     /// The number of the field in it, from 1.
     pub column: u32,

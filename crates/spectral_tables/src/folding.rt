@@ -34,7 +34,8 @@ fn total(triples: &[[i64; 3]]) -> [i64; 3]
 }
 
 /// The weights from 400 to 700 nm in steps of 10 nm, from weights that begin at `first` with the
-/// same steps: those below 400 nm are added to the first, and those above 700 nm to the last.
+/// same steps: those below 400 nm are added to that at 400 nm, and those above 700 nm to that at
+/// 700 nm.
 #[tactic(auto, unfolding(crate::specs::Fold::fold_of))]
 pub fn fold(first: u16, triples: &[[i64; 3]]) -> [[i64; 3]; 31]
     requires run { Covers first (length triples.now) }

@@ -1,8 +1,8 @@
 //! The laws of spectra. A call does nothing; what it ensures is the law.
 ghost use Rattle.spectral_tables.specs.Laws.{SpectrumEncloses, SpectrumInRange};
 
-/// The law of [`Curve::spectrum`](crate::Curve::spectrum): it keeps enclosing where the scale
-/// grows.
+/// The law of [`Curve::spectrum`](crate::Curve::spectrum): the spectrum at a scale n encloses that
+/// at each scale m * n.
 pub fn spectrum()
     ensures { SpectrumEncloses }
 {}

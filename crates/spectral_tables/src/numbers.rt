@@ -17,7 +17,7 @@ pub(crate) fn is_wavelength(field: &[u8], nm: u32) -> bool
     }
 }
 
-/// The number that a field writes, counted in units of its last decimal place.
+/// The number that a field writes, in units of 10^-`decimals`, or `None` where it has a fault.
 pub(crate) fn number(field: &[u8], decimals: u8) -> Option<i64>
     requires { decimals ≤ 6 }
     ensures { result ≡ number_read (decimal_of decimals field.now) }

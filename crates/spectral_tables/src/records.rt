@@ -31,7 +31,8 @@ fn refusal(kind: &ErrorKind) -> AllocError
     }
 }
 
-/// The records of the bytes, each with its fields as they are written.
+/// The records of the bytes, each with its fields as `csv` reads them: without quotes, and not
+/// trimmed.
 pub(crate) fn records_of(alloc: Global, bytes: &[u8]) -> Result<Vec<ByteRecord>, AllocError>
     ensures records { IfOk result (λ v. map fields_of v.items ≡ records_of bytes.now) }
     ensures fits { IfOk result (λ v.

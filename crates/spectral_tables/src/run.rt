@@ -9,7 +9,8 @@ use crate::numbers::{natural_in, number};
 use std::alloc::{AllocError, Global};
 use std::marker::Model;
 
-/// The rows that have been read: the first wavelength in nanometres, and the weights of each row.
+/// The rows that have been read: the first wavelength in nanometres, 300 where there is none yet,
+/// and the weights of each row.
 #[derive(Drop)]
 pub(crate) struct Run {
     first: u16,
@@ -58,7 +59,7 @@ impl Run {
         self.triples.len() as u32 + 2
     }
 
-    /// The wavelength that follows the last row.
+    /// The wavelength that follows the last row, 300 where there is none.
     fn following_wavelength(&self) -> u32
         ensures is { result ≡ following_wavelength self.now }
         ensures held { IsRun self.now }
@@ -73,7 +74,7 @@ impl Run {
         710 <= self.following_wavelength()
     }
 
-    /// Whether the next row may have this wavelength.
+    /// Whether the next row may have this wavelength, which is in range.
     fn is_due(&self, nm: u32) -> bool
         ensures { result ≡ is_due self.now nm }
     {

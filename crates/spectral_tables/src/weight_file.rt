@@ -115,11 +115,12 @@ fn weights_of(alloc: Global, records: &[ByteRecord]) -> Result<Weights, TableErr
 
 /// The weights of a file of at most 1,000,000 bytes.
 ///
-/// The first record has four fields, `nm` and any three. Each further record is a wavelength and a
-/// weight of up to 1,000 in magnitude for X, Y and Z: the first wavelength is a multiple of 10 from
-/// 300 to 400 nm, each further one is 10 nm more, and the last one is from 700 to 830 nm. The last
-/// record is `white` and three values above 0. A byte order mark and spaces and tabs around a field
-/// are ignored.
+/// The first record has four fields, `nm` and any three. Then comes a record for each wavelength,
+/// with a weight of up to 1,000 in magnitude for X, Y and Z: the first wavelength is a multiple of
+/// 10 from 300 to 400 nm, each further one is 10 nm more, and the last one is from 700 to 830 nm.
+/// The last record is `white` and three values above 0 and up to 1,000, each at least half the sum
+/// of the magnitudes of its column. A byte order mark and spaces and tabs around a field are
+/// ignored.
 ///
 /// The error is the first fault with its row and column, or that memory has run out.
 pub fn read_weights(alloc: Global, bytes: &[u8]) -> Result<Weights, TableError>

@@ -1,5 +1,5 @@
-//! A loop for each operation. The sum of the results' ends is printed, so that the compiler cannot
-//! leave out a call.
+//! A loop for each operation, and one without any (`Ends`). The sum of the results, or of their
+//! ends, is printed, so that the compiler cannot leave out a call.
 ghost use Rattle.std.specs.Prelude.{ℕ, ◌^◌, ◌≤◌};
 
 use crate::pairs::Pair;
@@ -56,6 +56,7 @@ pub(crate) const OPERATIONS: [Operation; 20] = [
     Operation::Reflect,
 ];
 
+// evaluates `$call` on each pair, `$rounds` times over, and sums the ends of the results
 macro_rules! rounds {
     ($pairs:ident, $rounds:ident, $first:ident, $second:ident, $call:expr) => {{
         let mut sum = 0i128;
@@ -191,7 +192,7 @@ fn unit_squared<S: Scale>() -> u128
     parts * parts
 }
 
-/// Calls one operation on each pair, `rounds` times over, and sums the ends of the results.
+/// Calls one operation on each pair, `rounds` times over, and sums the results or their ends.
 pub(crate) fn run<S: Scale>(operation: Operation, pairs: &[Pair<S>], rounds: u32) -> i128 {
     match operation {
         Operation::Ends => ends(pairs, rounds),

@@ -7,8 +7,8 @@ use std::alloc::{AllocError, Global};
 /// How many pairs are drawn.
 const COUNT: u32 = 1000;
 
-/// Two intervals above 0 and up to a few units, as the operands of an operation, and the K/S of a
-/// colour.
+/// Two intervals above 0 and up to 1 and a few parts of the scale, as the operands of an operation,
+/// and the K/S of a colour.
 #[derive(Drop)]
 pub(crate) struct Pair<S: Scale> {
     pub(crate) first: Iv<S>,

@@ -1,5 +1,5 @@
--- The laws of the ratios: they enclose those of a narrower spectrum where the scale grows from n to m * n, and they lie in
--- their range.
+-- The laws of the ratios: they enclose those of a narrower spectrum where the scale grows from n to
+-- m * n, and they lie in their range.
 use Rattle.std.specs.Prelude.{◌*◌, ℕ, List, All}
 use Rattle.interval_specs.specs.Ends.{Ends}
 use Rattle.interval_specs.specs.Ranges.{UpTo}
@@ -8,7 +8,8 @@ use Rattle.spectral_tables.specs.WeightTable.{WeightTable, IsWeightTable}
 use Rattle.fix_bounds.specs.Ratios.{EnclosesRatios, RatioEnds}
 use Rattle.tristimulus.specs.Ratios.{ratios_at}
 
--- the ratios keep enclosing, with weights of either sign and any white
+-- the ratios of a spectrum at a scale n enclose those of a narrower one at each scale m * n, with
+-- weights of either sign and any white
 abbrev pub RatiosEnclose : Type 0
 RatiosEnclose =
     (n m : ℕ) (spectrum finer : List Ends) (w : WeightTable) → EnclosesWaves m spectrum finer

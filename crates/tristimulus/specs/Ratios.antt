@@ -9,8 +9,8 @@ use Rattle.spectral_tables.specs.WeightTable.{Triple, WeightTable, at_column}
 abbrev pub nothing : Ends
 nothing = record { lo = pos 0; hi = pos 0 }
 
--- The sum of a column's weights, each times the reflectance at its wavelength. For a weight below 0, the lower end of the
--- product comes from the upper end of the reflectance.
+-- The sum of a column's weights, each times the reflectance at its wavelength. For a weight below
+-- 0, the lower end of the product comes from the upper end of the reflectance.
 unfoldable pub weighted_sum : ℕ → List Triple → List Ends → Ends
 weighted_sum column [] spectrum = nothing
 weighted_sum column (triple ∷ triples) [] = nothing

@@ -22,7 +22,7 @@ use shade_report::{Refusal, accepted_text};
 use shelf_io::Shelf;
 use std::alloc::Global;
 
-/// JOB CERT.
+/// The words JOB CERT.
 #[derive(Clone, Copy)]
 pub(crate) struct Check<'a>(pub CertWords<'a>);
 
@@ -86,7 +86,8 @@ impl<'a> Inquiry<'a> for Check<'a> {
     fn report(self, alloc: Global, input: &CertInput) -> Result<Report<'a>, Stop<'a>> {
         let cert = cert_from(alloc, &input.land, input.text.as_slice())?;
         let valid = valid_from(alloc, &input.land, cert)?;
-        let _ = budget_of(&input.land); // called only for its contract: they can be searched
+        // called only for its contract: the recipes of the job can be searched
+        let _ = budget_of(&input.land);
         let mut text = Vec::new(alloc);
         text.extend_from_slice(accepted_text(&valid.claim).as_bytes())?;
         Ok(plain_report(text))

@@ -28,10 +28,10 @@ use shade_report::demo_text;
 use shelf_io::Shelf;
 use std::alloc::{AllocError, Global};
 
-/// The name that the refusal of a generated job would print. None is ever refused.
+/// The name that a refusal of a generated job would print. No generated job is ever refused.
 const NAME: &str = "demo";
 
-/// NUMBER.
+/// The word NUMBER.
 #[derive(Clone, Copy)]
 pub(crate) struct Demo(pub Seed);
 

@@ -26,7 +26,7 @@ use metamerism::{Verdict, judge_light};
 use shelf_io::Shelf;
 use std::alloc::{AllocError, Global};
 
-/// CURVES STANDARD SAMPLE WEIGHTS L10 C10 [TOL].
+/// The words CURVES STANDARD SAMPLE WEIGHTS L10 C10 [TOL].
 #[derive(Clone, Copy)]
 pub(crate) struct Diff<'a> {
     curves: &'a str,

@@ -19,12 +19,13 @@ use shelf_io::Shelf;
 use spectral_tables::{Curve, CurveBook};
 use std::alloc::{AllocError, Global};
 
-/// The first wavelength of a curve, and the step from one to the next, in nanometres.
+/// The first wavelength of a curve, in nanometres.
 const FIRST_WAVELENGTH: usize = 400;
 
+/// The step from one wavelength to the next, in nanometres.
 const WAVELENGTH_STEP: usize = 10;
 
-/// CURVES COLUMN.
+/// The words CURVES COLUMN.
 #[derive(Clone, Copy)]
 pub(crate) struct Ks<'a> {
     curves: &'a str,

@@ -1,5 +1,5 @@
-//! `predict` and `correct`: the first recipe of a job that passes, with the certificate that shows
-//! it.
+//! `predict` and `correct`: the first recipe of a job that keeps the limits and passes, with the
+//! certificate that shows it.
 
 ghost use Rattle.std.specs.Prelude.{◌≡◌, All, IfOk, IfSome, map, option_map};
 ghost use Rattle.box_search.specs.Result.{outcome_view};
@@ -27,7 +27,8 @@ use shade_report::{Shown, outcome_text};
 use shelf_io::Shelf;
 use std::alloc::{AllocError, Global};
 
-/// A search among the recipes of a job. The rule says whether the job must have a batch.
+/// A search among the recipes of a job. By the rule the job must have a batch (to correct), or must
+/// not have one (to predict).
 #[derive(Clone, Copy)]
 pub(crate) struct Search<'a>(pub CertWords<'a>, pub BatchRule);
 

@@ -21,7 +21,7 @@ use shade_report::{Refusal, show_text};
 use shelf_io::Shelf;
 use std::alloc::Global;
 
-/// JOB STEPS.
+/// The words JOB STEPS.
 #[derive(Clone, Copy)]
 pub(crate) struct Show<'a> {
     job: &'a str,

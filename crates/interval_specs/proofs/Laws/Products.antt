@@ -19,7 +19,8 @@ finer_low m p x y h = subst (λ z. (pos (m * m) *ℤ p) ≤ℤ z) (sym (corner_i
 finer_high : (m : ℕ) (p x y : ℤ) → (x *ℤ y) ≤ℤ p → ((pos m *ℤ x) *ℤ (pos m *ℤ y)) ≤ℤ (pos (m * m) *ℤ p)
 finer_high m p x y h = subst (λ z. z ≤ℤ (pos (m * m) *ℤ p)) (sym (corner_is m x y)) (mono_left (m * m) (x *ℤ y) p h)
 
--- the least coarse product, in fine units, is at most each product of a number within a and one within b
+-- the least coarse product, in fine units, is at most each product of a number within a and one
+-- within b
 product_low : (m : ℕ) (a b : Ends) (x y : ℤ) → (pos m *ℤ a.lo) ≤ℤ x → x ≤ℤ (pos m *ℤ a.hi) → (pos m *ℤ b.lo) ≤ℤ y → y ≤ℤ (pos m *ℤ b.hi) → (pos (m * m) *ℤ least_product a b) ≤ℤ (x *ℤ y)
 product_low m a b x y p q r s =
     let l = least_product a b in

@@ -95,7 +95,8 @@ quotient_encloses n m a b a' b' finer low p q =
       ordered = quotients_ordered (m * n) a' b' p.ordered;
     }
 
--- the lower end of a quotient comes from the lower end of the dividend, and the upper from the upper
+-- the lower end of a quotient comes from the lower end of the dividend, and the upper from the
+-- upper
 pub quotient_lower : (n : ℕ) (a b : Ends) → pos 0 <ℤ b.lo → b.lo ≤ℤ b.hi → a.lo ≤ℤ a.hi → (quotient_at n a b).lo ≡ int_min (quotient_down n a.lo b.lo) (quotient_down n a.lo b.hi)
 unfolding quotient_at
 quotient_lower n a b some o u =

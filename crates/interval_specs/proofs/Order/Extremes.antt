@@ -58,7 +58,8 @@ any_least P p q r s a b c d = either_min P (int_min p q) (int_min r s) (either_m
 pub any_greatest : (P : ℤ → Type 0) (p q r s : ℤ) → P p → P q → P r → P s → P (greatest_of_four p q r s)
 any_greatest P p q r s a b c d = either_max P (int_max p q) (int_max r s) (either_max P p q a b) (either_max P r s c d)
 
--- the least and the greatest of two pairs, where no number of one pair is above its partner in the other
+-- the least and the greatest of two pairs, where no number of one pair is above its partner in the
+-- other
 pub least_of_lower : (p q r s : ℤ) → p ≤ℤ r → q ≤ℤ s → least_of_four p q r s ≡ int_min p q
 least_of_lower p q r s h k =
     antisym_ℤ (least_of_four p q r s) (int_min p q)

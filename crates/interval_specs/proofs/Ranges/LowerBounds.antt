@@ -1,4 +1,5 @@
--- Lower bounds: what follows from them, and those of rounded quotients, sums, products, squares and choices.
+-- Lower bounds: what follows from them, and those of rounded quotients, sums, products, squares and
+-- choices.
 use Rattle.std.proofs.Common.{ℕ, ℤ, pos, negsuc, suc, true, false, ◌+◌, ◌*◌, ◌≤◌, ◌<◌, ◌*ℤ◌, ◌≤ℤ◌, ◌<ℤ◌, unsigned_abs, arith, mul-le-mul_left, ◌/◌, ◌%◌, div-add-mod', mod-lt, Bool, if◌then◌else◌, mul-le-mul, zero, lit<}
 use Rattle.std.proofs.Math.Nat.{le_of_mul-le-mul_left}
 use Rattle.std.proofs.lemmas.Int.{ints}

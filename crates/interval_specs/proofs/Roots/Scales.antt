@@ -4,7 +4,8 @@ use Rattle.std.proofs.lemmas.Int.{ints}
 use Rattle.interval_specs.specs.Roots.{square, cube, root_below, root_above}
 use Rattle.interval_specs.proofs.Roots.Powers.{IsPower, square_power, cube_power, below_fits, below_greatest, above_fits, above_least, below_le_above}
 
--- m times the coarse square root rounded down is at most the fine one rounded down, and likewise for those rounded up
+-- m times the coarse square root rounded down is at most the fine one rounded down, and likewise
+-- for those rounded up
 pub sqrt_low : (n m a a' : ℕ) → m * a ≤ a' → m * root_below square (a * n) ≤ root_below square (a' * (m * n))
 sqrt_low n m a a' h =
     let r = root_below square (a * n) in

@@ -1,4 +1,5 @@
--- A quotient by 0, as the definitions give it: -1 or 0 rounded down, and 0 or 1 rounded up, by the sign of the dividend.
+-- A quotient by 0, as the definitions give it: -1 or 0 rounded down, and 0 or 1 rounded up, by the
+-- sign of the dividend.
 use Rattle.std.proofs.Common.{ℕ, zero, suc, ℤ, pos, negsuc, ◌≡◌, ◌<◌, ◌*ℤ◌, neg_ℤ, ◌≤ℤ◌, ap, arith}
 use Rattle.std.proofs.Math.Nat.{div-zero}
 use Rattle.std.proofs.lemmas.Int.{ints}

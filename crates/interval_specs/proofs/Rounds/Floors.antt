@@ -1,4 +1,5 @@
--- Rounding down and up by their inequalities: files that use this one do not unfold the two functions.
+-- Rounding down and up by their inequalities: files that use this one do not unfold the two
+-- functions.
 use Rattle.std.proofs.Common.{ℕ, ◌+◌, ℤ, pos, negsuc, suc, ◌≡◌, ◌*◌, ◌≤◌, ◌<◌, ◌+ℤ◌, ◌*ℤ◌, neg_ℤ, ◌≤ℤ◌, ◌<ℤ◌, unsigned_abs, refl, ap, subst, arith, mul-le-mul_left, sym, ◌/◌, ◌%◌, div-add-mod', mod-lt, add-one-le, div-le_self}
 use borrow.Author.Differences.{sum_is_lem}
 use Rattle.std.proofs.lemmas.Int.{ints, by_lt_z}

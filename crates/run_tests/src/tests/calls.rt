@@ -21,7 +21,8 @@ pub(crate) fn call(
     Ok(format!(in alloc; "{status} {text}")?)
 }
 
-/// The same over these files, where no call of the shelf or the sink fails.
+/// The same over these files. No call is made to fail; reads of other names do, and no other file
+/// can be made.
 pub(crate) fn answer(
     rt: &impl Abort,
     alloc: Global,

@@ -8,7 +8,8 @@ use std::process::Abort;
 use std::test::Fail;
 
 /// The status and text of `ks flat.csv p50` where the calls of the shelf and of the sink with these
-/// numbers fail. The file must not change.
+/// numbers fail, and a read returns at most `most` bytes, unless that is 0. The file must not
+/// change.
 fn ks_under_faults(
     rt: &impl Abort,
     alloc: Global,
@@ -39,7 +40,7 @@ fn answers_after_a_fault(rt: HostRuntime) -> Result<(), Fail> {
     let half = all.as_str().get(..542).ok_or("no half")?;
     let unreadable = "unreadable flat.csv\n";
     for (shelf_call, sink_call, most, status, text) in [
-        // a failed read, and reads after the last one
+        // a failed read; the last row has the number of a read that is never made
         (1, 9, 0, 2, unreadable),
         (2, 9, 0, 2, unreadable),
         (3, 9, 0, 0, all.as_str()),

@@ -83,7 +83,7 @@ pub(crate) fn picking_light(alloc: Global) -> Result<String, AllocError> {
     )
 }
 
-/// Three curves that differ at the picked wavelengths.
+/// Three curves, each two of which differ at some of the picked wavelengths.
 pub(crate) fn three_curves(alloc: Global) -> Result<String, AllocError> {
     table(
         alloc,

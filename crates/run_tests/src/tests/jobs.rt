@@ -42,8 +42,8 @@ pub(crate) struct TwoLights {
     pub job: String,
 }
 
-/// A job of which U dyes only half of the wavelengths, and the second light has weights only at the
-/// other half.
+/// A job with two lights: U dyes only the wavelengths up to 540 nm, and the second light has
+/// weights only from 560 nm on.
 pub(crate) fn two_lights(alloc: Global) -> Result<TwoLights, AllocError> {
     let curves = halves(alloc, "nm,p50,p30,half", 540, "50,30,30", "50,30,50", "")?;
     let end = "white,15,15,15\n";
@@ -74,7 +74,7 @@ const MATCH: &str = "0 dye U steps 0 percent 0.000 grams 0.00\n\
     light 1 DE 0.000000000000..0.000003316625 pass\n\
     pass\n";
 
-// Two equal dyes at one price: one step of either matches.
+// Two equal dyes: one step of the second matches.
 #[test]
 fn shows_recipes(rt: HostRuntime) -> Result<(), Fail> {
     let alloc = rt.alloc();
@@ -110,7 +110,7 @@ fn shows_recipes(rt: HostRuntime) -> Result<(), Fail> {
     Ok(())
 }
 
-// Each limit is named by its number, the lowest first.
+// Limits 2 to 5 are named by their numbers; where several are broken, the lowest is named.
 #[test]
 fn names_limits(rt: HostRuntime) -> Result<(), Fail> {
     let alloc = rt.alloc();

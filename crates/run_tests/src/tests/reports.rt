@@ -1,4 +1,4 @@
-//! Reports of each command.
+//! Reports of `ks`, `xyz`, `lab` and `diff`.
 
 use super::calls::{answer, assert_answers};
 use super::files::{

@@ -1,4 +1,4 @@
-//! `predict`, `correct` and `check`.
+//! `predict`, `correct`, `check` and `demo`.
 
 use super::calls::{answer, assert_answers, call};
 use super::files::{even_light, flat};

@@ -7,7 +7,7 @@ use crate::calls::is_scheduled;
 use crate::failed::Failed;
 
 impl MemShelf {
-    // The next call: a read of the name.
+    // Makes the next call, a read of the name.
     pub(super) fn read(&mut self, name: &str, offset: u64, into: &mut [u8]) -> Result<usize, Failed>
         ensures exact { is_err result ≡ read_fails self.old name.now }
         ensures size { IfOk result
@@ -37,8 +37,8 @@ impl MemShelf {
     }
 }
 
-// Copies at most `most` bytes from the offset on to the beginning of `into`, and returns how many
-// it copied.
+// Copies at most `most` bytes, those that begin at the offset, to the beginning of `into`, and
+// returns how many it copied.
 fn copy(bytes: &[u8], offset: u64, most: usize, into: &mut [u8]) -> usize
     ensures size { result ≡ min most (min (length into.new) (length bytes.now - offset)) }
     ensures bytes { take result into.new ≡ take result (drop offset bytes.now) }

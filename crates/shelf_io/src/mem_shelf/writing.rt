@@ -6,7 +6,7 @@ use crate::calls::{fitting, is_scheduled};
 use crate::failed::Failed;
 
 impl MemShelf {
-    // The next call: a create of the name.
+    // Makes the next call, a create of the name.
     pub(super) fn make(&mut self, name: &str) -> Result<(), Failed>
         requires { length name.now ≤ 255 }
         ensures exact { is_err result ≡ create_fails self.old name.now }
@@ -37,7 +37,7 @@ impl MemShelf {
         }
     }
 
-    // The next call: an append of the piece to a held name.
+    // Makes the next call, an append of the piece to a held name.
     pub(super) fn add(&mut self, name: &str, piece: &[u8]) -> Result<(), Failed>
         requires { IsSome ((shelf_contents self.old).file name.now) }
         ensures exact { is_err result ≡ append_fails self.old piece.now }
