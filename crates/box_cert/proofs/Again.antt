@@ -42,7 +42,7 @@ not_false false h = refl
 same_mark : (mark : ℕ) → is_mark mark mark ≡ true
 same_mark mark = grind (arith, nat_tests)
 
--- a text with no mark, and the mark after it
+-- a text without the mark, then the mark and more, is cut at this mark
 pub cut_again : (mark : ℕ) (w r : List ℕ) → has_no mark w ≡ true → cut_at mark (w ++ (mark ∷ r)) ≡ Some (w, r)
 cut_again mark [] r h = ap (λ q. if q then Some ([], r) else option_map (λ s. (mark ∷ s.0, s.1)) (cut_at mark r)) (same_mark mark)
 cut_again mark (b ∷ bs) r h =
@@ -60,7 +60,7 @@ cut_none mark (b ∷ bs) h =
 appended : (mark : ℕ) (a b : List ℕ) → has_no mark a ≡ true → has_no mark b ≡ true → has_no mark (a ++ b) ≡ true
 appended mark a b p q = list_all-append (λ x. not (is_mark mark x)) a b ∙ both (has_no mark a) (has_no mark b) p q
 
--- numbers with one space between
+-- a number of steps is read back from its digits
 small : (n : ℕ) → n ≤ 4000 → number_of 0 4000 (decimal n) ≡ Some n
 small n h = number_again 0 4000 n (omega arith) h (omega arith)
 
@@ -70,6 +70,7 @@ head_fits n ns h = h 0 0 (omega arith)
 tail_fits : (n : ℕ) (ns : List ℕ) → StepsFit (n ∷ ns) → StepsFit ns
 tail_fits n ns h = λ k d l. h (suc k) d (omega arith)
 
+-- numbers with one space between are read as those numbers
 pub numbers_again : (k : ℕ) (ns : List ℕ) → length ns ≡ suc k → StepsFit ns → numbers_at k (numbers_text ns) ≡ Some ns
 numbers_again k [] e h = absurd (omega arith)
 numbers_again zero (n ∷ []) e h = ap (option_map (λ x. x ∷ [])) (small n (head_fits n [] h))
@@ -92,7 +93,7 @@ numbers_free (n ∷ (m ∷ ns)) h =
     let f = head_fits n (m ∷ ns) h in
     appended 10 (decimal n) (32 ∷ numbers_text (m ∷ ns)) (decimal_free 10 n (omega arith) (omega arith)) (numbers_free (m ∷ ns) (tail_fits n (m ∷ ns) h))
 
--- a line of a tree
+-- the spelling of a line of a tree is read as that line
 pub line_again : (line : CertLine) → LineFits line → line_of (line_text line) ≡ Some line
 unfolding line_text
 line_again (Split dye mid) h =
@@ -132,7 +133,7 @@ count_again count h = number_again 0 1000000 count (omega arith) h (omega (arith
 count_free : (count : ℕ) → count ≤ 1000000 → has_no 10 (count_text count) ≡ true
 count_free count h = decimal_free 10 count (omega arith) (omega (arith, h))
 
--- a line with its line feed
+-- a line with its line feed is the first of the lines of a text that begins with it
 lines_again : (line text : List ℕ) → has_no 10 line ≡ true → lines_of (as_line line ++ text) ≡ (line ∷ (lines_of text).0, (lines_of text).1)
 lines_again line text h =
     ap lines_of (append_assoc line (10 ∷ []) text) ∙ lines_cut (line ++ (10 ∷ text)) ∙ ap (split_at (line ++ (10 ∷ text))) (cut_again 10 line text h)

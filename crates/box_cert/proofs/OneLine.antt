@@ -1,4 +1,4 @@
--- A text is read as a line exactly where it is the spelling of that line.
+-- A text is read as a line or as a recipe exactly where it spells one with its numbers in range.
 use Rattle.std.proofs.Common.{◌≡◌, ◌≤◌, ℕ, List, length, sym, ap, ◌∙◌, IfSome}
 use Rattle.std.specs.Prelude.{Option, Some, None, IsNone, option_map}
 use Rattle.std.proofs.lemmas.Bool.{false≢true}

@@ -63,7 +63,7 @@ module _ (dims : ℕ) where
   abbrev pub then_claim : Unit {0} × Cursor → Result Content CertFault
   then_claim head = next_of BadClaim (claim_of dims) head.1 >>= then_count
 
-  -- each part was read
+  -- where each part was read, the result is the certificate, or a fault where something is left
   pub cert_parts : (text : List ℕ) (claim : Claim) (count : ℕ) (listed : List (List ℕ)) (lines : List CertLine) (p2 p3 p4 p5 p6 : Cursor)
       → next_of BadHeader header_of (cursor_of 1 text) ≡ Ok (tt, p2) → next_of BadClaim (claim_of dims) p2 ≡ Ok (claim, p3) → next_of BadClaim count_of p3 ≡ Ok (count, p4)
       → recipes_at dims count p4 ≡ Ok (listed, p5) → trees_at 1 p5 ≡ Ok (lines, p6)

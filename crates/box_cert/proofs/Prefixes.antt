@@ -33,7 +33,7 @@ fails_then (errors.Fault x) read f h = ap (λ r. r >>= f) h
 pub fails_as : {A : Type 0} (e : CertError) (a b : Result A CertFault) → a ≡ b → FailsAs e a → FailsAs e b
 fails_as e a b h f = let P : Result _ CertFault → Type 0 = λ r. FailsAs e r in subst P h f
 
--- a tree from its next line on
+-- k + 1 trees are read as their first line, and then its subtrees and the other k trees
 pub trees_next : (k number : ℕ) (lines : List (List ℕ)) (left : List ℕ) → trees_from (suc k) number lines left
     ≡ (next_of BadLine line_of (record { number = number; lines = lines; left = left }) >>= λ r. onto r.0 (trees_at (parts_of r.0 + k) r.1))
 trees_next k number [] left = refl
@@ -46,7 +46,7 @@ trees_next k number (text ∷ lines) left = go (line_of text) where
   go None = refl
   go (Some line) = refl
 
--- one more line of a tree
+-- a line and more lines are k + 1 trees exactly where the others are its subtrees and k trees
 pub shape_on : (k : ℕ) (line : CertLine) (more : List CertLine) → are_trees (suc k) (line ∷ more) ≡ are_trees (parts_of line + k) more
 shape_on k (Split dye mid) more = let e : suc (suc k) ≡ 2 + k = omega arith in ap (λ n. are_trees n more) e
 shape_on k (Limit x) more = let e : k ≡ 0 + k = omega arith in ap (λ n. are_trees n more) e

@@ -30,7 +30,7 @@ put_next before now spaced new xs i z l t h s e =
     ∙ ap (λ t. before ++ t) (sym (behind_some (take i xs) (get_or xs i 0) (omega arith)))
     ∙ ap (λ t. before ++ numbers_text t) (sym (take_more xs i 0 l))
 
--- a recipe has a number for each dye
+-- a recipe of `dims` dyes, at least one, is read as `dims` numbers
 pub recipe_at : (dims : ℕ) (line : List ℕ) → 1 ≤ dims → numbers_at (dims - 1) line ≡ recipe_of dims line
 recipe_at zero line h = absurd (omega arith)
 recipe_at (suc k) line h = let e : suc k - 1 ≡ k = omega arith in ap (λ n. numbers_at n line) e
@@ -49,7 +49,7 @@ at_word : (k : ℕ) (rest : List ℕ) (o : Option (List ℕ × List ℕ)) → cu
 at_word k rest o e = ap (option_and_then (after_word k)) e
 
 module _ (dims counter : ℕ) (steps rest : List ℕ) (all : Option (List ℕ)) (h : with_prefix steps (numbers_at (dims - counter) rest) ≡ all) where
-  -- the word was the last one
+  -- no space follows, though more numbers must: the line is no recipe
   pub no_word : counter < dims → cut_at 32 rest ≡ None → None ≡ all
   no_word l e =
       let s : dims - counter ≡ suc (dims - (counter + 1)) = omega arith in
@@ -71,7 +71,7 @@ module _ (dims counter : ℕ) (steps rest : List ℕ) (all : Option (List ℕ)) 
       ∙ sym (ap (λ k. with_prefix steps (numbers_at k rest)) s ∙ ap (with_prefix steps) (at_word (dims - (counter + 1)) rest (Some (word, tail)) e)
       ∙ ap (λ o. with_prefix steps (number_before o (numbers_at (dims - (counter + 1)) tail))) w) ∙ h
 
-  -- the last number
+  -- the last number is all that is left of the line
   pub last_number : (o : Option ℕ) → dims ≤ counter → number_of 0 4000 rest ≡ o → with_prefix steps (option_map (λ n. n ∷ []) o) ≡ all
   last_number o l e =
       let s : dims - counter ≡ 0 = omega arith in

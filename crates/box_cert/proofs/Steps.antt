@@ -26,7 +26,7 @@ module _ (w : ℕ) (xs : List CertLine) (p : Cursor) (all : Result (List CertLin
       ∙ ap (with_prefix xs) (ap (λ k. onto x (trees_at (k + (w - 1)) q)) same ∙ sym (opened ∙ ap (λ r. r >>= then_tree) read))
       ∙ h
 
-  -- the line has a fault
+  -- the line is missing or has a fault
   pub tree_fails : (e : CertError) → FailsAs e (next_of BadLine line_of p) → FailsAs e all
   tree_fails e f =
       fails_as e _ all (sym (ap (with_prefix xs) opened) ∙ h)
@@ -36,7 +36,7 @@ pub tree_ends : (w : ℕ) (xs : List CertLine) (p : Cursor) (all : Result (List 
 tree_ends zero xs p all none h = sym h ∙ ap (λ ys. Ok (ys, p)) (append-nil xs)
 tree_ends (suc w) xs p all none h = absurd (omega arith)
 
--- the lines with one more, and the trees that must follow them
+-- where w trees must follow the lines so far, after one more line its parts and w - 1 trees must
 pub shape_step : (w : ℕ) (xs : List CertLine) (x : CertLine) (parts : ℕ) → 0 < w → parts ≡ parts_of x
     → ((more : List CertLine) → are_trees 1 (xs ++ more) ≡ are_trees w more) → (more : List CertLine) → are_trees 1 ((xs ++ x ∷ []) ++ more) ≡ are_trees (parts + (w - 1)) more
 shape_step w xs x parts some same shape more =
@@ -58,7 +58,7 @@ module _ (dims count i : ℕ) (xs : List (List ℕ)) (p : Cursor) (all : Result 
       ∙ ap (with_prefix xs) (sym (opened_list ∙ ap (λ r. r >>= then_recipes) read))
       ∙ h
 
-  -- the line has a fault
+  -- the line is missing or has a fault
   pub recipe_fails : (e : CertError) → FailsAs e (next_of BadLine (recipe_of dims) p) → FailsAs e all
   recipe_fails e f =
       fails_as e _ all (sym (ap (with_prefix xs) opened_list) ∙ h)

@@ -45,7 +45,7 @@ ok_same : {A : Type 0} (x y : A) → good x ≡ good y → x ≡ y
 unfolding ok_or
 ok_same x y h = ap (ok_or x) h
 
--- what the first of two readings read, and what the second did
+-- an accepted reading of two steps: the first read some x, and the second, given x, read y
 pub bind_ok : {A B : Type 0} (r : Result A CertFault) (f : A → Result B CertFault) (y : B) → (r >>= f) ≡ Ok y → (x : A) × (r ≡ Ok x) × (f x ≡ Ok y)
 bind_ok (Ok x) f y h = (x, refl, h)
 bind_ok (Err e) f y h = absurd (err_ok e y h)
@@ -62,7 +62,7 @@ chosen : {A : Type 0} (b : Bool) (x y z : Option A) → (if b then x else y) ≡
 chosen true x y z h = inl (refl, h)
 chosen false x y z h = inr h
 
--- numbers with one space between
+-- where numbers are read, the first was read, and so were the others
 first_read : (o : Option ℕ) (more : Option (List ℕ)) (ns : List ℕ) → number_before o more ≡ Some ns → (n : ℕ) × (ms : List ℕ) × (o ≡ Some n) × (more ≡ Some ms) × (ns ≡ n ∷ ms)
 first_read None more ns h = absurd (none_some ns h)
 first_read (Some n) more ns h = let m = map_some (λ xs. n ∷ xs) more ns h in (n, m.0, refl, m.1, sym m.2)
@@ -76,6 +76,7 @@ pub record AreSpelled (k : ℕ) (text : List ℕ) (ns : List ℕ) : Type 0 where
   pub is : text ≡ numbers_text ns
   pub count : length ns ≡ suc k
 
+-- a text that is read as k + 1 numbers is their spelling
 pub numbers_takes : (k : ℕ) (text ns : List ℕ) → numbers_at k text ≡ Some ns → AreSpelled k text ns
 numbers_takes zero text ns h =
     let m = map_some (λ n. n ∷ []) (number_of 0 4000 text) ns h in
@@ -99,7 +100,7 @@ recipe_takes (suc k) text ns h = (numbers_takes k text ns h).is
 is_it : (b mark : ℕ) → (b == mark) ≡ true → b ≡ mark
 is_it b mark h = grind (arith, nat_tests)
 
--- a line of a tree
+-- a text that is read as a line of a tree is its spelling
 pub line_takes : (text : List ℕ) (line : CertLine) → line_of text ≡ Some line → text ≡ line_text line
 unfolding line_text
 line_takes [] line h = absurd (none_some line h)
@@ -248,7 +249,7 @@ recipes_takes dims (suc k) p y h =
       many = ap suc more.many;
     })
 
--- the lines of trees
+-- where trees are read, the text is the spelling of their lines and then what is left
 pub trees_take : (k number : ℕ) (lines : List (List ℕ)) (left : List ℕ) (y : List CertLine × Cursor) → trees_from k number lines left ≡ Ok y → text_at lines left ≡ lines_text y.0 ++ text_of y.1
 trees_take zero number lines left y h =
     let P : (List CertLine × Cursor) → Type 0 = λ z. text_at lines left ≡ lines_text z.0 ++ text_of z.1 in

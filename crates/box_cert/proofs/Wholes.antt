@@ -26,7 +26,8 @@ module _ (name head recipes lines : List ℕ) (old : ShelfView) where
       pub no_lines : (new : ShelfView) → GoesWrong name lines w2 v2 new → GoesWrong name ((head ++ recipes) ++ lines) [] old new
       no_lines new f = on_wrong name (head ++ recipes) lines [] w2 old v2 new both f
 
-      -- all was put, and the waiting bytes are appended
+      -- all was put, and the append of the waiting bytes, which may fail, is the result of the
+      -- whole
       pub all_put : {T E : Type 0} (r : Result T E) (w3 : List ℕ) (v3 new : ShelfView) → GoesOn name lines w2 v2 w3 v3 → Goes name [] r w3 v3 [] new → Goes name ((head ++ recipes) ++ lines) r [] old [] new
       all_put (Ok x) w3 v3 new third last =
           let P : List ℕ → Type 0 = λ t. GoesOn name t [] old [] new in

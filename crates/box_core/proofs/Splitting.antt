@@ -10,7 +10,7 @@ pub widest_step : (best width i j : ℕ) (low high : List ℕ) → j < length lo
     else widest best width (i + 1) (drop (j + 1) low) (drop (j + 1) high))
 widest_step best width i j low high l h = rw (add-one j, drop-cons low j 0 l, drop-cons high j 0 h) refl
 
--- one more dye
+-- the search for the widest range goes on from the wider of the best and that of dye i
 pub widest_next : (best next : WideRange) (i : ℕ) (low high : List ℕ) → i < length low → i < length high
     → next ≡ (if nat_lt best.width (get_or high i 0 - get_or low i 0) then record { dye = i; width = get_or high i 0 - get_or low i 0 } else best)
     → widest next.dye next.width (i + 1) (drop (i + 1) low) (drop (i + 1) high) ≡ widest best.dye best.width i (drop i low) (drop i high)

@@ -44,7 +44,7 @@ module _ (l : Land) (lawful : IsLawful l) where
   pub length_is : (r : List ℕ) → IsWithin r l.top → length r ≡ length l.top.lo
   length_is r h = same_count l.top.lo r h.0
 
-  -- the numbers in the line of a box are in range
+  -- the number of a limit that excludes a box is in range
   limit_fits : (k : ℕ) (b : Span) → l.excluded k b ≡ true → LineFits (Limit k)
   limit_fits zero b h = absurd (false≢true (sym (lawful.no_limit 0 b (inl refl)) ∙ h))
   limit_fits (suc k) b h = elim (cases_lt 5 (suc k)) as (λ _. LineFits (Limit (suc k))) [
@@ -68,6 +68,7 @@ module _ (l : Land) (lawful : IsLawful l) where
       let at = All-get_or (λ n. n ≤ 4000) b.hi (cut_of b).dye 0 (omega (arith, cuts.there, high)) (All-from_recursion (λ n. n ≤ 4000) b.hi small) in
       (omega arith, omega (arith, cuts.there, long, lawful.dyes.1), omega (arith, cuts.high, at))
 
+  -- the numbers in the line of a box are in range
   line_fits : (b : Span) → IsSound l b → LineFits (line_of l b)
   line_fits b s = go (limit_of l b) (light_of l b) (is_single b) (l.grade b.lo) refl refl refl where
     go : (x y : Option ℕ) (t : Bool) (g : Grade) → limit_of l b ≡ x → light_of l b ≡ y → is_single b ≡ t → LineFits (line_by (judged_by l x y t g) (cut_of b))

@@ -156,7 +156,7 @@ module _ (l : Land) (lawful : IsLawful l) where
       (λ d u i x. lt_test (rank_at d (root u)) all_boxes
       (count_lt l (λ e b. precedes (spot_of l e b) (spot_of l d (root u))) (λ e b. true) (tree_of l) 0 d u (λ e v j y. refl) i (not_itself (spot_of l d (root u))) refl))
 
-  -- for each number below that of all boxes there is a box of that rank
+  -- each number below the number of all boxes is the rank of a box
   box_of : (m : ℕ) → m < all_boxes → Passing l (has_rank m) 0 (tree_of l)
   box_of m h = go (first_box (has_rank m) 0 (tree_of l)) (first_tells l (has_rank m) 0 (tree_of l)) where
     rest : below all_boxes ≤ below (m + 1) + (all_boxes - (m + 1))

@@ -48,7 +48,7 @@ open_single l b j e h = go (limit_of l b) (light_of l b) (is_single b) (l.grade 
   go None None true fails r = absurd (false≢true r)
   go None None true unsure r = absurd (false≢true r)
 
--- a box is final exactly where its answer is not open
+-- a box is final exactly where it is not judged open
 pub open_final : (l : Land) (b : Span) (t : Bool) → is_open (judgement l b) ≡ t → is_final l b ≡ (if t then false else true)
 open_final l b t h = go (limit_of l b) (light_of l b) (is_single b) (l.grade b.lo) t h where
   go : (x y : Option ℕ) (s : Bool) (g : Grade) (u : Bool) → is_open (judged_by l x y s g) ≡ u → (is_some x || is_some y) || s ≡ (if u then false else true)

@@ -26,10 +26,11 @@ use Rattle.box_search.proofs.Ranks.{alike, at_sound, at_tree, judged_above, lowe
 use Rattle.box_search.proofs.Trees.{IsSoundTree, corner_within, count_le, leaf_for, single_corners, up_to_both, whole_root}
 use Rattle.box_search.proofs.Walks.{Fits, IsPoint, corners_are, mark, one_tree, passing, point_line, undecided, walks}
 
--- a recipe between two corners passes the test `is_within`
+-- the test of two numbers in order passes
 le_test : (m n : ℕ) → m ≤ n → nat_le m n ≡ true
 le_test m n h = grind (arith, nat_tests, h)
 
+-- a recipe between two corners passes the test `is_within`
 within_test : (r low high : List ℕ) → IsUpTo low r → IsUpTo r high → is_within r low high ≡ true
 within_test [] [] high h k = refl
 within_test [] (x ∷ low) high h k = absurd h

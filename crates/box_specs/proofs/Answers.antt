@@ -31,7 +31,7 @@ in_map n r [] h = absurd h
 in_map n r (x ∷ xs) (inl e) = inl (ap (λ steps. n ∷ steps) e)
 in_map n r (x ∷ xs) (inr h) = inr (in_map n r xs h)
 
--- a recipe that begins with a number of a range is in the list
+-- a list that begins with a number of the range, and goes on as an item of `rest`, is in the list
 in_each : (n first count : ℕ) (r : List ℕ) (rest : List (List ℕ)) → first ≤ n → n < first + count → IsIn r rest → IsIn (n ∷ r) (each_before (numbers_from first count) rest)
 in_each n first zero r rest h k i = absurd (omega arith)
 in_each n first (suc count) r rest h k i = elim (cases_lt first n) as (λ _. IsIn (n ∷ r) (map (λ steps. first ∷ steps) rest ++ each_before (numbers_from (first + 1) count) rest)) [

@@ -62,7 +62,7 @@ two_ranges l mid h v low high =
 factored : (w a b c : ℕ) → a + b ≡ c → w * a + w * b ≡ w * c
 factored w a b c e = grind (arith, e)
 
--- both halves together have the recipes of the box
+-- both halves together have as many recipes as the box
 volume_cut : (low high : List ℕ) (i mid : ℕ) → i < length low → i < length high → get_or low i 0 ≤ mid → mid < get_or high i 0
     → volume low (slice_set high i mid) + volume (slice_set low i (mid + 1)) high ≡ volume low high
 unfolding volume

@@ -15,7 +15,8 @@ use Rattle.box_specs.specs.Splits.{CutAt, HalvesPartition, Partitions, RuleFits,
 pub same_count : (low high : List ℕ) → IsUpTo low high → length high ≡ length low
 same_count low high h = AllZip-long (λ (l n : ℕ). l ≤ n) low high h
 
--- the upper corner with another number, which is not below that of the lower corner
+-- where a number of the upper corner is replaced by one that is not below that of the lower corner,
+-- the corners are still those of a box
 pub set_high : (low high : List ℕ) (i n : ℕ) → IsUpTo low high → get_or low i 0 ≤ n → IsUpTo low (slice_set high i n)
 set_high [] [] i n h k = tt
 set_high [] (m ∷ high) i n h k = absurd h
@@ -23,7 +24,8 @@ set_high (l ∷ low) [] i n h k = absurd h
 set_high (l ∷ low) (m ∷ high) zero n h k = (k, h.1)
 set_high (l ∷ low) (m ∷ high) (suc i) n h k = (h.0, set_high low high i n h.1 k)
 
--- the lower corner with another number, which is not above that of the upper corner
+-- where a number of the lower corner is replaced by one that is not above that of the upper corner,
+-- the corners are still those of a box
 pub set_low : (low high : List ℕ) (i n : ℕ) → IsUpTo low high → n ≤ get_or high i 0 → IsUpTo (slice_set low i n) high
 set_low [] [] i n h k = tt
 set_low [] (m ∷ high) i n h k = absurd h
@@ -31,7 +33,8 @@ set_low (l ∷ low) [] i n h k = absurd h
 set_low (l ∷ low) (m ∷ high) zero n h k = (k, h.1)
 set_low (l ∷ low) (m ∷ high) (suc i) n h k = (h.0, set_low low high i n h.1 k)
 
--- the converse: the number of the upper corner was lowered, or that of the lower one raised
+-- where the corners are those of a box after a number of the upper one was lowered, or of the lower
+-- one raised, they were so before
 pub unset_high : (low high : List ℕ) (i n : ℕ) → IsUpTo low (slice_set high i n) → n ≤ get_or high i 0 → IsUpTo low high
 unset_high [] [] i n h k = tt
 unset_high [] (m ∷ high) zero n h k = absurd h
@@ -48,7 +51,7 @@ unset_low (l ∷ low) [] (suc i) n h k = absurd h
 unset_low (l ∷ low) (m ∷ high) zero n h k = (omega (arith, h.0), h.1)
 unset_low (l ∷ low) (m ∷ high) (suc i) n h k = (h.0, unset_low low high i n h.1 k)
 
--- the new number is a bound
+-- in a box with a new number in one corner, this number is in order with that of the other corner
 pub below_set : (low high : List ℕ) (i n : ℕ) → IsUpTo low (slice_set high i n) → i < length high → get_or low i 0 ≤ n
 below_set [] [] i n h k = absurd (omega arith)
 below_set [] (m ∷ high) zero n h k = absurd h
@@ -149,8 +152,8 @@ optional_found i dye (l ∷ low) (m ∷ high) h = go (optional_found (i + 1) dye
         high_is = rest.high_is;
       }
 
--- the widest range is that so far, and no range is wider; or it is the range of another dye, and
--- wider than that so far
+-- the result is `best`, and no range is wider than `width`; or it is a dye of the lists whose range
+-- is wider than `width`
 pub data IsWidest (best width i : ℕ) (low high : List ℕ) (result : ℕ) : Type 0 where
   same : result ≡ best → AllZip (λ l h. h - l ≤ width) low high → IsWidest best width i low high result
   wider : (offset : ℕ) → result ≡ i + offset → offset < length low → width < get_or high offset 0 - get_or low offset 0 → IsWidest best width i low high result

@@ -36,7 +36,7 @@ listed_at (s ∷ listed) r (suc k) h e = or_right (same_steps r s) (is_listed li
   or_right true b h = refl
   or_right false b h = h
 
--- the comparison of the recipe at an index with another one
+-- comparing with the recipe at an index finds whether it is this one
 pub not_there : (listed : List (List ℕ)) (t r : List ℕ) (i : ℕ) (b : Bool) → b ≡ same_steps t r → b ≡ false → t ≡ get_or listed i [] → get_or listed i [] ≡ r → ⊥
 not_there listed t r i b h other e at = false≢true (sym other ∙ h ∙ subst (λ s. same_steps s r ≡ true) (sym (e ∙ at)) (itself r))
 

@@ -71,7 +71,7 @@ after_parts l b waiting Dear p e all = all
 after_parts l b waiting Undecided p e all = all
 after_parts l b waiting Pass p e all = all
 
--- a line that holds can cut its box
+-- a split line that holds can cut its box; of other lines nothing is asked
 pub can_be_cut : (l : Land) (claim : Claim) (listed : List (List ℕ)) (b : Span) (line : CertLine) → line_fault l claim listed b line ≡ None → CanBeCut b line
 can_be_cut l claim listed b (Split dye mid) h = go (splits b dye mid) refl h where
   go : (t : Bool) → splits b dye mid ≡ t → unless t BadSplit None ≡ None → t ≡ true

@@ -210,8 +210,8 @@ module _ (l : Land) (lawful : IsLawful l) where
         settles_on b bs x parts.0 here
         (sound (n + 1) (after b bs x) xs (after_parts l b bs x parts.0 (can_be_cut l claim listed b x here) parts.1) (trees_on b bs x xs here t) both.1)
 
-    -- what follows from a line that holds, of the lower corner of its box, holds of the corners of
-    -- all such lines
+    -- where no line fails: what follows for a line that passes the test, of the lower corner of its
+    -- box, holds of the corners of all lines that pass it
     corners_hold : (test : CertLine → Bool) (Q : List ℕ → Type 0)
         → ((b : Span) (x : CertLine) → test x ≡ true → line_fault l claim listed b x ≡ None → Q b.lo)
         → (n : ℕ) (bs : List Span) (xs : List CertLine) → line_failure l claim listed n bs xs ≡ None → AllByRecursion Q (corners test bs xs)
@@ -299,7 +299,8 @@ claimed_means l (Floor cost) listed w s us all h = λ steps i a cheap. elim (s.e
 pub record ClaimsOnly (claim : Claim) (recipe : List ℕ) : Type 0 where
   pub recipe_is : (steps : List ℕ) → is_claimed claim steps ≡ true → same_steps recipe steps ≡ true
 
--- where no line fails, each pass line is that of the recipe of the match
+-- where a line holds, this equation carries over from the lines after it: there is a pass line
+-- exactly where the recipe is among the corners of the pass lines
 passes_on : (l : Land) (claim : Claim) (recipe : List ℕ) (listed : List (List ℕ)) (b : Span) (x : CertLine) → ClaimsOnly claim recipe
     → line_fault l claim listed b x ≡ None → (rest : List (List ℕ)) (more : Bool) → more ≡ is_listed rest recipe
     → is_pass_line x || more ≡ is_listed (if is_pass_line x then b.lo ∷ rest else rest) recipe
@@ -314,6 +315,7 @@ passes_on l claim recipe listed b Pass c h rest more e =
     let same = c.recipe_is b.lo (unless_none _ WrongList None two.1).0 in
     sym (ap (λ t. t || is_listed rest recipe) same)
 
+-- where no line fails, there is a pass line exactly where the recipe is the corner of one
 pub pass_known : (l : Land) (lawful : IsLawful l) (claim : Claim) (recipe : List ℕ) (listed : List (List ℕ)) (n : ℕ) (bs : List Span) (xs : List CertLine)
     → ClaimsOnly claim recipe → are_trees (length bs) xs ≡ true → line_failure l claim listed n bs xs ≡ None
     → has_pass_line xs ≡ is_listed (corners is_pass_line bs xs) recipe

@@ -39,7 +39,7 @@ corners_step (b ∷ bs) x xs = go (is_undecided_line x) refl where
   go true e = rw e refl
   go false e = rw e refl
 
--- the boxes and marks after a line that holds
+-- a line that holds advances the walk to the boxes and marks after it
 pub advances : (l : Land) (claim : Claim) (listed : List (List ℕ)) (line : CertLine) (before : List Span) (b : Span) (rest now : List Span) (old new : List Bool)
     → before ≡ b ∷ rest → AllByRecursion (IsPart l) before → line_fault l claim listed b line ≡ None → now ≡ after b rest line
     → MarksMore old new (own_recipe b line) listed → Advances l listed line before now old new
@@ -51,7 +51,7 @@ advances l claim listed line before b rest now old new e parts holds n m =
       marks = subst (λ bs. MarksMore old new (next_recipe bs line) listed) (sym e) m;
     }
 
--- one more line, after which the result of the whole walk is that of its rest
+-- where the line at an index holds, the first failure from it on is that of the lines after it
 pub walk_more : (l : Land) (claim : Claim) (listed : List (List ℕ)) (n i : ℕ) (lines : List CertLine) (before now : List Span) → i < length lines
     → (d : CertLine) → next_fault l claim listed before (get_or lines i d) ≡ None → now ≡ next_waiting before (get_or lines i d)
     → line_failure l claim listed (n + (i + 1)) now (drop (i + 1) lines) ≡ line_failure l claim listed (n + i) before (drop i lines)

@@ -52,7 +52,7 @@ in_grid_is l steps lawful h = within_is steps l.top.lo l.top.hi lawful.top h
 pub in_top_is : (l : Land) (steps : List ℕ) (top : Span) → IsLawful l → top ≡ l.top → is_within steps top.lo top.hi ≡ true → IsWithin steps l.top
 in_top_is l steps top lawful e h = in_grid_is l steps lawful (subst (λ (b : Span). is_within steps b.lo b.hi ≡ true) e h)
 
--- no failure, or the failure at this line that the list is wrong
+-- `next` where the test holds, and else the failure at this line that the list is wrong
 abbrev pub or_wrong : Bool → Option (ℕ × Why) → ℕ → Option (ℕ × Why)
 or_wrong t next n = if t then next else Some (n, WrongList)
 
@@ -87,8 +87,8 @@ pub grid_of : (l : Land) (a b c : Bool) → a && b && c ≡ true → a ≡ true
 grid_of l true b c h = refl
 grid_of l false b c h = h
 
--- the recipes of a list without a failure are of the grid, and each comes after the previous one,
--- and so after all before it
+-- the recipes of the list are of the grid, before the recipe of a match, after `previous`, and each
+-- after all before it
 pub record ListIsOrdered (l : Land) (claim : Claim) (previous : Option (List ℕ)) (listed : List (List ℕ)) : Type 0 where
   pub grid : (k : ℕ) → k < length listed → IsWithin (get_or listed k []) l.top
   pub early : (k : ℕ) → k < length listed → is_early l claim (get_or listed k []) ≡ true
@@ -99,6 +99,7 @@ later_trans : (l : Land) (previous : Option (List ℕ)) (a b : List ℕ) → is_
 later_trans l None a b h k = refl
 later_trans l (Some p) a b h k = before_trans l p a b h k
 
+-- where a list has no failure, its recipes are so
 pub list_is_ordered : (l : Land) (claim : Claim) (n : ℕ) (previous : Option (List ℕ)) (listed : List (List ℕ)) → IsLawful l
     → list_failure l claim n previous listed ≡ None → ListIsOrdered l claim previous listed
 list_is_ordered l claim n previous [] lawful h = record {

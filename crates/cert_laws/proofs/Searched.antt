@@ -43,7 +43,8 @@ module _ (l : Land) (lawful : IsLawful l) (budget : ℕ) where
   abbrev Boxes : ℕ
   Boxes = min (need l) budget
 
-  -- bounds on the bytes of the text of the certificate, on its lines and on its listed recipes
+  -- bounds on the bytes of the listed recipes and the tree's lines together, on the number of these
+  -- lines, and on the number of listed recipes
   record IsSmall (listed : List (List ℕ)) (xs : List CertLine) : Type 0 where
     pub bytes : 60 * length listed + total line_size xs ≤ 36 * budget + 26
     pub lines : length xs ≤ 2 * budget + 1

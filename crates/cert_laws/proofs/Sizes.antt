@@ -35,8 +35,8 @@ total_append size (x ∷ xs) ys =
     let rest = total_append size xs ys in
     omega (arith, rest)
 
--- a bound on the bytes of the lines of a tree by the number of judged boxes, with 60 more bytes for
--- each undecided line
+-- bounds by a number n of judged boxes: on the bytes of the lines, with 60 more for each undecided
+-- line, on the number of lines, and on the number of undecided lines
 pub record Sizes (xs : List CertLine) (n : ℕ) : Type 0 where
   pub bytes : total line_size xs + 60 * total undecided_size xs ≤ 36 * n + 26
   pub lines : length xs ≤ 2 * n + 1
@@ -83,7 +83,7 @@ module _ (l : Land) where
     go true h g = subst (λ x. Sizes (x ∷ (xs ++ ys)) (1 + (m + n))) (sym (open_line l b i.1)) (split_sizes ((cut_of b).dye + 1) (cut_of b).mid m n xs ys h g)
     go false h g = dear_sizes (0 + (m + n))
 
-  -- at most as many recipes are listed as there are undecided lines
+  -- a list grows by at most one recipe where one is put in
   put_few : (r : List ℕ) (xs : List (List ℕ)) → length (put_in l r xs) ≤ 1 + length xs
   put_few r [] = omega arith
   put_few r (x ∷ xs) = go (put_few r xs) (is_before l r x) (is_before l x r) where
@@ -92,6 +92,7 @@ module _ (l : Land) where
     go h false true = omega (arith, h)
     go h false false = omega arith
 
+  -- a list that is put in order has no more recipes than before
   pub order_few : (xs : List (List ℕ)) → length (in_order l xs) ≤ length xs
   order_few [] = omega arith
   order_few (x ∷ xs) =
@@ -99,6 +100,7 @@ module _ (l : Land) where
       let rest = order_few xs in
       omega (arith, put, rest)
 
+-- at most as many recipes are listed as there are undecided lines
 pub corners_few : (bs : List Span) (xs : List CertLine) → length (corners is_undecided_line bs xs) ≤ total undecided_size xs
 corners_few bs [] = omega arith
 corners_few [] (x ∷ xs) = omega arith

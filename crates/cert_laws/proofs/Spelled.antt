@@ -16,7 +16,7 @@ use Rattle.cert_laws.proofs.Sizes.{line_size, total}
 small : (n : ℕ) → n ≤ 4000 → length (decimal n) ≤ 4
 small n h = length-decimal-le 4 n (omega arith) (omega (arith, h)) (omega (arith, h))
 
--- a number and the byte after it take at most five bytes
+-- numbers of up to 4,000, each with the byte after it, take at most five bytes each
 numbers_short : (n : ℕ) (ns : List ℕ) → AllByRecursion (λ m. m ≤ 4000) (n ∷ ns) → length (numbers_text (n ∷ ns)) + 1 ≤ 5 * length (n ∷ ns)
 numbers_short n [] h =
     let one = small n h.0 in
@@ -92,7 +92,8 @@ count_short n h =
     let all = ended_long (count_text n) in
     omega (arith, one, keyword, all)
 
--- the head takes at most 100 bytes, and a listed recipe 60
+-- a certificate for up to 12 dyes has at most 100 bytes for its first three lines, 60 for each
+-- listed recipe, and the sizes of the lines of its tree
 pub cert_short : (dims : ℕ) (c : Content) → dims ≤ 12 → IsCertFor dims c → length (cert_text c) ≤ 100 + 60 * length c.listed + total line_size c.lines
 unfolding cert_text head_text
 cert_short dims c few h =

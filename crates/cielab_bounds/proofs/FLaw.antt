@@ -40,7 +40,7 @@ still_on_root n m t t' some h on off = let p = mul-le-mul_left m (add-one-le on)
 still_off_root : (n m t t' : ℕ) → t' ≤ m * t → 24389 * t ≤ 216 * n → 216 * (m * n) < 24389 * t' → ⊥
 still_off_root n m t t' h off on = let p = mul-le-mul_left m off in omega arith
 
--- a coarse lower end on the linear part, a fine one on the root
+-- m times a coarse lower end on the linear part is at most a fine one on the root
 linear_to_root : (n m t t' : ℕ) → 24389 * t ≤ 216 * n → 216 * (m * n) < 24389 * t' → (pos m *ℤ floor_over (pos (linear n t)) 3132) ≤ℤ pos (root_below cube (t' * ((m * n) * (m * n))))
 linear_to_root n m t t' off on =
     let f = linear n t / 3132 in
@@ -49,7 +49,7 @@ linear_to_root n m t t' off on =
     let r : m * f ≤ root_below cube (t' * ((m * n) * (m * n))) = root_beyond (m * n) t' (m * f) on (omega arith) in
     rw (sym (floor_of_natural (linear n t) 3132)) (omega (arith, ints))
 
--- a coarse upper end on the root, a fine one on the linear part
+-- a fine upper end on the linear part is at most m times a coarse one on the root
 root_to_linear : (n m t t' : ℕ) → 216 * n < 24389 * t → 24389 * t' ≤ 216 * (m * n) → ceil_over (pos (linear (m * n) t')) 3132 ≤ℤ (pos m *ℤ pos (root_above cube (t * (n * n))))
 root_to_linear n m t t' on off =
     let r = root_above cube (t * (n * n)) in
@@ -57,7 +57,7 @@ root_to_linear n m t t' on off =
     let k = mul-le-mul_left m b in
     ceil_least (pos (linear (m * n) t')) (pos m *ℤ pos r) 3132 (lit< tt) (by_parts (pos (linear (m * n) t')) ((pos m *ℤ pos r) *ℤ pos 3132) (simp parts (omega arith)))
 
--- at one scale: a lower end on the linear part, an upper one on the root
+-- at one scale, a lower end on the linear part is at most an upper end on the root
 linear_under_root : (n t u : ℕ) → 24389 * t ≤ 216 * n → 216 * n < 24389 * u → floor_over (pos (linear n t)) 3132 ≤ℤ pos (root_above cube (u * (n * n)))
 linear_under_root n t u off on =
     let f = linear n t / 3132 in

@@ -140,7 +140,7 @@ hue_weight_square_at_least n sh few o h =
     let p : 0 < 22 * n = omega arith in
     square_at_least 48 1000 n sh (omega arith) (positive 22 100 n sh p h) o (square_room n (unsigned_abs sh.lo) few (low_magnitude_at_least 22 100 n sh p h))
 
--- ---- the weights l and c, in tenths
+-- ---- l S_L is at least 0.0509 and c S_C at least 0.0636, for weights l and c of a tenth and more
 
 pub lightness_divisor_at_least : (n l10 : ℕ) (sl : Ends) → 10 ^ 6 ≤ n → 0 < l10 → AtLeast 51 100 n sl → AtLeast 509 10000 n (fraction_of l10 10 sl)
 lightness_divisor_at_least n l10 sl few some h =

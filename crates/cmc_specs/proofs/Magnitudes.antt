@@ -121,7 +121,7 @@ pub second_form_up_to : (n : ℕ) (a b c1 : Ends) → 10 ^ 6 ≤ n → UpTo n (c
 unfolding second_form
 second_form_up_to n a b c1 large u = form_up_to n (3 * n / 4) (n / 4) 56 2 (cosine_magnitude n (along_12 n a b) c1) (omega arith) (omega arith) (omega arith) u
 
--- one less an interval from 0 to 1
+-- 1 minus an interval from 0 to 1 lies from 0 to 1
 pub rest_up_to : (n : ℕ) (a : Ends) → UpTo n a → UpTo n (difference_of (one_at n) a)
 unfolding difference_of one_at
 rest_up_to n a u = let p = u.not_negative in let o = u.ordered in let b = u.below in record { not_negative = omega (arith, ints); ordered = omega (arith, ints); below = omega (arith, ints) }

@@ -30,13 +30,13 @@ standard_encloses n m p p' few finer h =
       sh = hue_weight_encloses n m _ _ _ _ _ _ some finer sc f t;
     }
 
--- lower bounds of the three weights of a standard, which hold where the ends of its a and b are in
--- order
+-- lower bounds of S_L, S_C and S_H
 pub record Weighted (n : ℕ) (s : StandardEnds) : Type 0 where
   pub sl : AtLeast 51 100 n s.sl
   pub sc : AtLeast 637 1000 n s.sc
   pub sh : AtLeast 22 100 n s.sh
 
+-- they hold where the ends of a and b are in order
 pub standard_weighted : (n : ℕ) (p : LabEnds) → 10 ^ 6 ≤ n → IsOrdered p.a → IsOrdered p.b → Weighted n (standard_at n p)
 unfolding standard_at
 standard_weighted n p few oa ob =

@@ -16,7 +16,7 @@ tenths_up_to k n w a few u = let m = mul-le-mul_left (k * n) few in fraction_up_
 pub coordinates_delta : (n : ℕ) (a b : Ends) → MagnitudeUpTo (1000 * n) a → MagnitudeUpTo (1000 * n) b → MagnitudeUpTo (2000 * n) (difference_of a b)
 coordinates_delta n a b s t = magnitude_wider (1000 * n + 1000 * n) (2000 * n) _ (omega arith) (difference_magnitude (1000 * n) (1000 * n) a b s t)
 
--- dL over l S_L
+-- dL / (l S_L) is at most 40,000 in magnitude
 pub lightness_term_magnitude : (n l10 : ℕ) (d sl : Ends) → 10 ^ 6 ≤ n → 0 < l10 → l10 ≤ 100 → MagnitudeUpTo (2000 * n) d → UpTo (3 * n) sl → AtLeast 51 100 n sl → MagnitudeUpTo (40000 * n) (quotient_at n d (fraction_of l10 10 sl))
 lightness_term_magnitude n l10 d sl large some few s u low =
     let by = fraction_of l10 10 sl in
@@ -27,7 +27,7 @@ lightness_term_magnitude n l10 d sl large some few s u low =
     let wide = mul-le-mul_left (2000 * n) m in
     quotient_magnitude n (40000 * n) (2000 * n) (unsigned_abs by.lo) d by (positive 509 10000 n by p b) (tenths_up_to 3 n l10 sl few u).ordered (omega arith) (omega arith) s
 
--- dC over c S_C
+-- dC / (c S_C) is at most 23,000 in magnitude
 pub chroma_term_magnitude : (n c10 : ℕ) (d sc : Ends) → 10 ^ 6 ≤ n → 0 < c10 → c10 ≤ 100 → MagnitudeUpTo (1415 * n) d → UpTo (6 * n) sc → AtLeast 637 1000 n sc → MagnitudeUpTo (23000 * n) (quotient_at n d (fraction_of c10 10 sc))
 chroma_term_magnitude n c10 d sc large some few s u low =
     let by = fraction_of c10 10 sc in
@@ -38,7 +38,7 @@ chroma_term_magnitude n c10 d sc large some few s u low =
     let wide = mul-le-mul_left (1415 * n) m in
     quotient_magnitude n (23000 * n) (1415 * n) (unsigned_abs by.lo) d by (positive 636 10000 n by p b) (tenths_up_to 6 n c10 sc few u).ordered (omega arith) (omega arith) s
 
--- dH^2 before its cut, and after it
+-- the difference of two intervals that are not below 0, cut at 0, is at most the bound of the first
 cut_between : (n k : ℕ) (x y u v : ℤ) → x ≤ℤ y → y ≤ℤ pos k → pos 0 ≤ℤ u → u ≤ℤ v → UpTo k (record { lo = int_max (x -ℤ v) (pos 0 *ℤ pos n); hi = int_max (y -ℤ u) (pos 0 *ℤ pos n) })
 cut_between n k x y u v o numerator z p = record { not_negative = omega (arith, ints, clamps); ordered = omega (arith, ints, clamps); below = omega (arith, ints, clamps) }
 
@@ -52,7 +52,7 @@ squares_up_to n a b some s t =
     let q = square_up_to n (4 * 10 ^ 6 * n) (2000 * n) b some (omega arith) t.small in
     up_to_wider (4 * 10 ^ 6 * n + 4 * 10 ^ 6 * n) (8 * 10 ^ 6 * n) _ (omega arith) (sum_up_to (4 * 10 ^ 6 * n) (4 * 10 ^ 6 * n) (square_at n a) (square_at n b) p q)
 
--- dH^2 over S_H^2
+-- dH^2 / S_H^2 lies from 0 to 170 * 10^6
 pub hue_term_up_to : (n : ℕ) (d sh : Ends) → 10 ^ 6 ≤ n → UpTo (8 * 10 ^ 6 * n) d → UpTo (6 * n) sh → AtLeast 22 100 n sh → UpTo (170 * 10 ^ 6 * n) (quotient_at n d (square_at n sh))
 hue_term_up_to n d sh large u v low =
     let by = square_at n sh in

@@ -56,7 +56,7 @@ pub chroma_positive : (x : ℤ) → pos 0 ≤ℤ x → (unsigned_abs x == 0) ≡
 chroma_positive (pos x) z e = let p : 0 < x = grind (arith, nat_tests) in omega (arith, ints)
 chroma_positive (negsuc x) z e = absurd (omega (arith, ints))
 
--- the magnitude of w over c1, before its cut
+-- the magnitude of w over c1, cut at 1, lies from 0 to 1
 magnitude_over_chroma : (n : ℕ) (w c1 : Ends) → pos 0 <ℤ c1.lo → IsOrdered c1 → UpTo n (cut_high_at n (pos 1) (quotient_at n (absolute_of w) c1))
 magnitude_over_chroma n w c1 low o =
     let s = absolute_up_to (magnitude_of w) w (le_refl (magnitude_of w)) in

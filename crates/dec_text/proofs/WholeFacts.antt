@@ -32,13 +32,14 @@ digits_below n (d ∷ ds) h =
     let power : 10 ^ suc (length ds) ≡ 10 ^ length ds * 10 = pow-suc 10 (length ds) in
     rw power (omega (arith, rest, wider))
 
--- a number that was counted up to a cap is exact where it has few enough digits to lie below the
--- cap
+-- the value is the number of the text, and lies below 10^most and below 10^9
 pub record IsExact (value most : ℕ) (text : List ℕ) : Type 0 where
   pub is : value ≡ digits_from 0 text
   pub small : value < 10 ^ most
   pub below : value < 10 ^ 9
 
+-- a number that was counted up to a cap is exact where it has few enough digits to lie below the
+-- cap
 pub exact : (value most : ℕ) (text : List ℕ) → most ≤ 9 → length text ≤ most → list_all is_digit text ≡ true → value ≡ min (largest + 1) (digits_from 0 text) → IsExact value most text
 exact value most text few short digits is =
     let below = digits_below 0 text digits in
@@ -46,7 +47,7 @@ exact value most text few short digits is =
     let nine : 10 ^ most ≤ 10 ^ 9 = pow-le-pow_right {n = 10} (omega arith) {i = most} {j = 9} few in
     record { is = omega (arith, below, grows, nine, is); small = omega (arith, below, grows, nine, is); below = omega (arith, below, grows, nine, is) }
 
--- the tests that pass for a text of 1 to `most` digits
+-- the exact value of a text of 1 to `most` digits is what `whole_number` gives
 pub chosen : (value most : ℕ) (text : List ℕ) → IsExact value most text → 1 ≤ length text → length text ≤ most → list_all is_digit text ≡ true → Some value ≡ whole_number most text
 unfolding whole_number
 chosen value most text h some short digits = by (nat_le 1 (length text)) (nat_le (length text) most) (list_all is_digit text) (grind (arith, nat_tests)) (grind (arith, nat_tests)) digits

@@ -10,7 +10,7 @@ use Rattle.demo_jobs.specs.Cloths.{dyed, dyed_at, indices, strength, substrate, 
 pub substrate_reflects : (index : ℕ) → index < 31 → IsReflectance (substrate_at index)
 substrate_reflects index lt = (omega arith, omega arith)
 
--- a number over one of 1000 and more, times 1000
+-- a number times 1000, over 1000 or more, is at most the number
 darker : (x y : ℕ) → x * 1000 / (1000 + y) ≤ x
 darker x y = let m : x * 1000 ≤ x * (1000 + y) = mul-le-mul_left x (omega arith) in div-le_of_le-mul (1000 + y) (omega (arith, m))
 

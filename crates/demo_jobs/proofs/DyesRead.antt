@@ -18,7 +18,7 @@ use Rattle.demo_jobs.specs.Dyes.{drawn_dye, drawn_dyes}
 use Rattle.demo_jobs.specs.JobTable.{dye_table, dyeing_table, dyeing_tables}
 use Rattle.demo_jobs.specs.Values.{job_dye}
 
--- its names are names, and its numbers are in range
+-- a drawn dye is readable: the names made for it are allowed in a job, and its numbers are in range
 pub record IsReadable (d : DrawnDye) : Type 0 where
   pub own : is_name (dye_name d.number) ≡ true
   pub first : is_name (dyeing_name d.number 1) ≡ true
@@ -28,7 +28,7 @@ pub record IsReadable (d : DrawnDye) : Type 0 where
   pub price : d.price ≤ 1000000
   pub fee : d.fee ≤ 10 ^ 12
 
--- each of the dyes is so, and no dye before it has its name
+-- each dye is readable, and no dye before it has its name
 abbrev pub AreReadable : List JobDye → List DrawnDye → Type 0
 AreReadable before [] = Unit {0}
 AreReadable before (d ∷ dyes) = IsReadable d × (has_dye before (dye_name d.number) ≡ false) × AreReadable (before ++ job_dye d ∷ []) dyes

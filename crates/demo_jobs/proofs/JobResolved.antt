@@ -1,4 +1,4 @@
--- The job resolves: each name has its curve, and no recipe is too strong.
+-- The job resolves: each name has its curve, and all dyes at their most steps are not too strong.
 use Rattle.std.proofs.Common.{◌≡◌, ◌*◌, ◌^◌, ◌≤◌, false, ℕ, pos, Ok, List, [], ◌∷◌, All, int_lt, map, refl, arith}
 use Rattle.std.specs.Fmt.{digits}
 use Rattle.std.proofs.lemmas.Int.{ints}

@@ -27,7 +27,7 @@ nothing_small : (k : ℕ) → MagnitudeUpTo k nothing
 nothing_small k = record { ordered = omega (arith, ints); small = omega (arith, ints) }
 
 module _ (n : ℕ) (dye : DrawnDye) (wave : ℕ) (lt : wave < 31) where
-  -- what a dyeing adds, times its units
+  -- what a dyeing adds, times its units, is at most its units times 10^4 in magnitude
   addition_small : (units : ℕ) → MagnitudeUpTo (units * (10 ^ 4 * n)) (weighted_addition n substrate wave (measured dye units))
   unfolding weighted_addition
   addition_small units =
@@ -50,7 +50,7 @@ module _ (n : ℕ) (dye : DrawnDye) (wave : ℕ) (lt : wave < 31) where
   unfolding square_sum dye_data
   squares = refl
 
-  -- the calibration at up to 4,000 units
+  -- up to 4,000 units of a dye add 0 to 28,000 to K/S
   value_small : (units : ℕ) → units ≤ 4000 → UpTo (28000 * n) (value_at n (dye_data dye) wave units)
   unfolding value_at dye_data
   value_small units few =
@@ -63,7 +63,7 @@ module _ (n : ℕ) (dye : DrawnDye) (wave : ℕ) (lt : wave < 31) where
   unfolding value_over dye_data
   contribution_small steps few = value_small (steps * 10) (omega arith)
 
--- what all dyes add
+-- the dyes add at most 28,000 each to K/S
 pub contributions_small : (n wave : ℕ) (dyes : List DrawnDye) (steps : List ℕ) → wave < 31 → All (λ s. s ≤ 400) steps
     → UpTo (length dyes * (28000 * n)) (contributions_at n wave (portions (map dye_data dyes) steps steps))
 unfolding contributions_at portions
@@ -92,7 +92,7 @@ pub length-base : (n : ℕ) (curve : List ℕ) → length (base_at n curve) ≡ 
 unfolding base_at
 length-base n curve = length-map curve (ks_at n)
 
--- the K/S of any recipe of up to six dyes of up to 400 steps each
+-- the K/S of any recipe of up to six dyes of up to 400 steps each is at most 200,000
 pub recipe_small : (n : ℕ) (dyes : List DrawnDye) (steps : List ℕ) → length dyes ≤ 6 → All (λ s. s ≤ 400) steps
     → All (UpTo (200000 * n)) (mixture_ks_at n (base_at n substrate) (portions (map dye_data dyes) steps steps))
 recipe_small n dyes steps some few =

@@ -27,7 +27,7 @@ pub inserted : (es : List (String Global × Value)) (k : String Global) (v : Val
 inserted [] k v = refl
 inserted (e ∷ es) k v = by_order (string_cmp k e.0) k v e es (insert_entry string_cmp es k v) (insert_member (string_bytes k) (view v) (members_view es)) (inserted es k v)
 
--- a dye nests two tables and an array
+-- the members of a dye's table nest an array and a table
 dye_depth : (dye : DrawnDye) → members_depth (dye_table dye) ≡ 2
 unfolding dye_table dyeing_tables dyeing_table
 dye_depth dye = refl

@@ -1,5 +1,5 @@
--- Ratios and CIELAB coordinates of a measured curve keep enclosing where the scale grows from the
--- base scale.
+-- Ratios and CIELAB coordinates of a measured curve keep enclosing where the scale grows from n to
+-- m * n.
 use Rattle.std.proofs.Common.{◌*◌, ◌<◌, ℕ, List, [], All, arith}
 use Rattle.cielab_bounds.specs.Laws.{EnclosesLab}
 use Rattle.cielab_bounds.proofs.LabLaw.{lab_encloses}

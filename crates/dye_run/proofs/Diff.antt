@@ -1,5 +1,5 @@
--- The report of `diff`: its enclosure holds those of every finer scale, and its verdict is true
--- there.
+-- The report of `diff`: its enclosure holds those of every finer scale, and a pass or a fail stays
+-- one there.
 use Rattle.std.proofs.Common.{◌*◌, ℕ, List, [], ◌∷◌, Option, Some, None, All, codes, lit≤, refl}
 use Rattle.std.proofs.lemmas.List.Elements.{All-cons}
 use Rattle.cmc_specs.proofs.Law.{any_colours_enclose}

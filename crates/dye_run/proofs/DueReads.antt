@@ -34,6 +34,6 @@ then_read name limit next bytes_read before mid after effect handed from_files r
           inr (bytes_read, from_files, (after.handed n - mid.handed n, subst (λ c. MayTake c (next bytes_read) n (after.handed n - mid.handed n)) effect.contents (rest.taken n), both));
     }
 
--- a command whose files have all been read reads no other
+-- where the outcome is known and nothing more is read, only due files were read
 pub none_read : (o : Outcome) (view : ShelfView) → ReadsDue (answers o) view view
 none_read o view = record { effect = reads_none (IsDue view.contents (answers o)) view; taken = λ n. omega arith }

@@ -24,7 +24,7 @@ zero_more n = omega arith
 
 -- ---- printing
 
--- a text that was put was printed
+-- a put of a text, whole or failed, leaves the sink and the result as `Prints` says
 pub prints_by : {T E : Type 0} (text : List ℕ) (status result : ℕ) (put : Result T E) (before after : SinkView) → Puts text put before after → result ≡ (if is_err put then not_written_status else status) → Prints text status before after result
 prints_by text status result (Ok x) before after puts r = delivery.whole puts.taken puts.counted r
 prints_by text status result (Err e) before after puts r =
@@ -57,7 +57,7 @@ refusal_writes (why.CertGrammar fault) = refl
 refusal_writes (why.CertWrong line reason) = refl
 refusal_writes (why.NotWritten name) = refl
 
--- and reports on no recipes
+-- the condition on searched jobs holds of a refusal, which has none
 pub refusal_searched : (r : Refusal) → IsSearched (refusal_outcome r)
 refusal_searched why.Usage = tt
 refusal_searched (why.Unreadable name) = tt
@@ -70,7 +70,7 @@ refusal_searched (why.CertGrammar fault) = tt
 refusal_searched (why.CertWrong line reason) = tt
 refusal_searched (why.NotWritten name) = tt
 
--- a refusal that was put was printed
+-- a put of a refusal, whole or failed, leaves the sink and the result as `Prints` says
 pub refusal_printed : {T E : Type 0} (r : Refusal) (status result : ℕ) (put : Result T E) (before after : SinkView) → Puts (refusal_text r) put before after → status ≡ status_of (refusal_outcome r)
     → result ≡ (if is_err put then not_written_status else status) → Prints (text_of (refusal_outcome r)) (status_of (refusal_outcome r)) before after result
 refusal_printed r status result put before after puts s e =

@@ -48,12 +48,12 @@ mapped : {A : Type 0} (f : A → Form) (x : Option A) (form : Form) → option_m
 mapped f (Some a) form e = (a, refl, let h : Some (f a) ≡ Some form = e in cc)
 mapped f None form e = absurd (let h : None ≡ Some form = e in cc)
 
--- a command of another form has another first word
+-- where this branch never gives the form, the rest gives it
 skip : {A : Type 0} (b : Bool) (f : A → Form) (x : Option A) (rest : Option Form) (form : Form) → ((a : A) → f a ≡ form → ⊥) → (if b then option_map f x else rest) ≡ Some form → rest ≡ Some form
 skip true f x rest form other e = let m = mapped f x form e in absurd (other m.0 m.2)
 skip false f x rest form other e = e
 
--- a command of this form has these words
+-- where the rest does not give the form, this branch gives it
 found : {A : Type 0} (b : Bool) (f : A → Form) (x : Option A) (rest : Option Form) (form : Form) → (rest ≡ Some form → ⊥) → (if b then option_map f x else rest) ≡ Some form → (a : A) × (x ≡ Some a) × (f a ≡ form)
 found true f x rest form other e = mapped f x form e
 found false f x rest form other e = absurd (other e)

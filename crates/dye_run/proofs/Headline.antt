@@ -52,7 +52,7 @@ unless_true : (b : Bool) → (b ≡ true → ⊥) → b ≡ false
 unless_true true h = absurd (h refl)
 unless_true false h = refl
 
--- a name that does not end as a certificate is another one
+-- a name that does not end with `.cert` differs from one that does
 other_name : (a b : List ℕ) → IsNoCert a → ends_as_cert b ≡ true → bytes_eq a b ≡ false
 other_name a b none ends = unless_true (bytes_eq a b) (λ h. let same : ends_as_cert a ≡ ends_as_cert b = ap ends_as_cert ((bytes_eq-Decides a b).0 h) in cc)
 
@@ -77,24 +77,26 @@ files_kept rule name (Some bytes) j e =
     (ap (unless_broken name) (accepts_either rule bytes j is), no.0, All-map IsNoCert (λ l. l.weights) j.light no.1)
 
 module _ (cert text : List ℕ) (before after : Option Contents) (written : after ≡ option_map (write_bytes cert text) before) where
-  -- a result of reading a file with another name is still possible
+  -- where the files are known, the bytes read are still those of the file with another name
   still_known : (name : List ℕ) (limit : ℕ) (bytes_read : Option (List ℕ)) → bytes_eq name cert ≡ false → (old : Option Contents) → IfSome old (λ c. IsSomeAnd (c.file name) (λ bytes. bytes_read ≡ up_to_limit limit bytes))
       → IfSome (option_map (write_bytes cert text) old) (λ c. IsSomeAnd (c.file name) (λ bytes. bytes_read ≡ up_to_limit limit bytes))
   still_known name limit bytes_read other None h = tt
   still_known name limit bytes_read other (Some c) h =
       subst (λ b. IsSomeAnd (if b then Some text else c.file name) (λ bytes. bytes_read ≡ up_to_limit limit bytes)) (sym other) h
 
+  -- a result of reading a file with another name is still possible
   still_read : (name : List ℕ) (limit : ℕ) (bytes_read : Option (List ℕ)) → bytes_eq name cert ≡ false → CanBeRead before name limit bytes_read → CanBeRead after name limit bytes_read
   still_read name limit bytes_read other w = record {
     short = w.short;
     known = subst (λ c. IfSome c (λ c. IsSomeAnd (c.file name) (λ bytes. bytes_read ≡ up_to_limit limit bytes))) (sym written) (still_known name limit bytes_read other before w.known);
   }
 
-  -- the certificate can be read
+  -- where the files are known, the file of the certificate now has its text
   cert_known : (limit : ℕ) → Some text ≡ up_to_limit limit text → (old : Option Contents) → IfSome (option_map (write_bytes cert text) old) (λ c. IsSomeAnd (c.file cert) (λ bytes. Some text ≡ up_to_limit limit bytes))
   cert_known limit short None = tt
   cert_known limit short (Some c) = subst (λ b. IsSomeAnd (if b then Some text else c.file cert) (λ bytes. Some text ≡ up_to_limit limit bytes)) (sym (own_name cert)) short
 
+  -- the certificate can be read
   cert_can_be_read : length text ≤ cert_limit → CanBeRead after cert cert_limit (Some text)
   cert_can_be_read short = record {
     short = short;

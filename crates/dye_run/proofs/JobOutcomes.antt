@@ -17,7 +17,7 @@ unfolding asks_each
 each_file_read contents [] next o w = ([], w)
 each_file_read contents (name ∷ names) next o w = let rest = each_file_read contents names (λ bytes_read. next (w.0 ∷ bytes_read)) o w.2 in (w.0 ∷ rest.0, rest.1)
 
--- the same of all files of a job
+-- the same of the curve file and the weights files of a job
 pub all_files_read : (contents : Option Contents) (j : Values) (next : Option (List ℕ) → List (Option (List ℕ)) → Asking) (o : Outcome) → Answers contents (asks_job_files j next) o
     → (curves : Option (List ℕ)) × (weights : List (Option (List ℕ))) × Answers contents (next curves weights) o
 all_files_read contents j next o w = let bytes_read = each_file_read contents (light_files j) (next w.0) o w.2 in (w.0, bytes_read.0, bytes_read.1)

@@ -31,7 +31,7 @@ module _ (lights : List JobLight) (bytes_read : List (Option (Vec ℕ))) (k : �
   unfolding weights_after
   weights_next = λ i. weights_after before (map (λ l. l.weights) (items_from lights k light hl is_light i)) (map bytes_view (items_from bytes_read k first hc is_first i))
 
-  -- one more
+  -- one more weights file was read: the others are read after its weights too
   pub weights_more : (t : WeightTable) (more : List WeightTable) {whole : Result (List WeightTable) Fault} → table_from weight_table_of light.weights (bytes_view first) ≡ Ok t → more ≡ before ++ t ∷ []
       → weights_after before (map (λ l. l.weights) (drop k lights)) (map bytes_view (drop k bytes_read)) ≡ whole
       → weights_after more (map (λ l. l.weights) (drop (k + 1) lights)) (map bytes_view (drop (k + 1) bytes_read)) ≡ whole
@@ -39,7 +39,7 @@ module _ (lights : List JobLight) (bytes_read : List (Option (Vec ℕ))) (k : �
       let rest : WeightTable → Result (List WeightTable) Fault = λ t. weights_after (before ++ t ∷ []) (map (λ l. l.weights) (drop (k + 1) lights)) (map bytes_view (drop (k + 1) bytes_read)) in
       ap (λ m. weights_after m (map (λ l. l.weights) (drop (k + 1) lights)) (map bytes_view (drop (k + 1) bytes_read))) grown ∙ sym (ap (λ r. r >>= rest) read) ∙ sym weights_next ∙ so_far
 
-  -- one that is refused
+  -- where one weights file is refused, all are, with its fault
   pub weights_fault : (why : Option Outcome) {whole : Result (List WeightTable) Fault} → IfSome why (λ o. (fault : Fault) × (o ≡ refused fault) × (table_from weight_table_of light.weights (bytes_view first) ≡ Err fault))
       → weights_after before (map (λ l. l.weights) (drop k lights)) (map bytes_view (drop k bytes_read)) ≡ whole
       → IfSome why (λ o. (fault : Fault) × (o ≡ refused fault) × (whole ≡ Err fault))
@@ -48,7 +48,7 @@ module _ (lights : List JobLight) (bytes_read : List (Option (Vec ℕ))) (k : �
       (refuses.0, refuses.1, sym so_far ∙ weights_next ∙ ap (λ r. r >>= rest) refuses.2)
   weights_fault None refuses so_far = tt
 
--- all are read
+-- where no light is left, the weights so far are the result
 pub weights_all : (lights : List JobLight) (bytes_read : List (Option (List ℕ))) (k : ℕ) (before : List WeightTable) {whole : Result (List WeightTable) Fault} → length lights ≤ k
     → weights_after before (map (λ l. l.weights) (drop k lights)) bytes_read ≡ whole → whole ≡ Ok before
 unfolding weights_after

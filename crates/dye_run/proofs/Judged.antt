@@ -56,7 +56,7 @@ unreadable_second curves weights before mid after bytes_read (Some o) effect fro
     )
 unreadable_second curves weights before mid after bytes_read None effect from_files stops = λ judged. tt
 
--- the second of two due files could not be read
+-- the read of the second of two due files failed, or memory ran out
 pub stops_second : (curves weights : List ℕ) (before mid after : ShelfView) (bytes_read : Option (List ℕ)) (why : Stop) → OnlyReads (λ n. n ≡ curves) before mid → CanBeRead before.contents curves table_limit bytes_read → StopsAt weights mid after why
     → (judged : Tables → Result spec.Report Fault) → Stops (asks_tables curves weights judged) before after why
 stops_second curves weights before mid after bytes_read why effect from_files stops = unreadable_second curves weights before mid after bytes_read (stop_outcome why) effect from_files stops

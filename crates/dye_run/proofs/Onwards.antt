@@ -76,12 +76,12 @@ unreadable_by : (name : List ℕ) (limit : ℕ) (next : Option (List ℕ) → As
 unreadable_by name limit next before after (Some o) s = inr (name, record { due = inl refl; failed = s.1 }, s.0)
 unreadable_by name limit next before after None s = tt
 
--- the first due file could not be read
+-- the read of the first due file failed, or memory ran out
 pub stops_first : (name : List ℕ) (limit : ℕ) (next : Option (List ℕ) → Asking) (before after : ShelfView) (why : Stop) → OnlyReads (λ n. n ≡ name) before after → HandsOut name (limit + 1) before after → StopsAt name before after why
     → StopsHaving (asks name limit next) before after why
 stops_first name limit next before after why effect handed s = record { stops = unreadable_by name limit next before after (stop_outcome why) s; reads = first_read name limit next before after effect handed }
 
--- memory ran out after a due file had been read
+-- memory ran out, and no file but the first due one was read
 pub stops_after : (name : List ℕ) (limit : ℕ) (next : Option (List ℕ) → Asking) (before after : ShelfView) (why : Stop) → OnlyReads (λ n. n ≡ name) before after → HandsOut name (limit + 1) before after → stop_outcome why ≡ None
     → StopsHaving (asks name limit next) before after why
 stops_after name limit next before after why effect handed none = record {
@@ -95,7 +95,7 @@ stops_after name limit next before after why effect handed none = record {
 abbrev pub asks_from : List (List ℕ) → ℕ → List (Option (List ℕ)) → (List (Option (List ℕ)) → Asking) → Asking
 asks_from names k bytes_read next = asks_each (drop k names) (λ rest. next (bytes_read ++ rest))
 
--- the next file
+-- where a file is left, it is due next, and then the files after it
 pub next_file : (names : List (List ℕ)) (k : ℕ) (bytes_read : List (Option (List ℕ))) (next : List (Option (List ℕ)) → Asking) → k < length names
     → asks_from names k bytes_read next ≡ asks (get_or names k []) table_limit (λ first. asks_from names (k + 1) (bytes_read ++ first ∷ []) next)
 unfolding asks_each
@@ -103,7 +103,7 @@ next_file names k bytes_read next h =
     ap (λ ns. asks_each ns (λ rest. next (bytes_read ++ rest))) (drop-cons names k [] h)
     ∙ (λ i. asks (get_or names k []) table_limit (λ first. asks_each (drop (sym (add-one k) i) names) (λ rest. next (sym (append_assoc bytes_read (first ∷ []) rest) i))))
 
--- none is left
+-- where no file is left, the rest of the command follows
 pub no_file : (names : List (List ℕ)) (k : ℕ) (bytes_read : List (Option (List ℕ))) (next : List (Option (List ℕ)) → Asking) → length names ≤ k → asks_from names k bytes_read next ≡ next bytes_read
 unfolding asks_each
 no_file names k bytes_read next h = ap (λ ns. asks_each ns (λ rest. next (bytes_read ++ rest))) (drop_all k names h) ∙ ap next (append-nil bytes_read)
@@ -123,14 +123,14 @@ module _ (asking : Asking) (names : List (List ℕ)) (k : ℕ) (bytes_read : Lis
       let both : GoesOn asking (rest first) before now = goes_further asking (asks name table_limit rest) (rest first) before mid now (subst (λ a. GoesOn asking a before mid) (here h is) g) one in
       subst (λ m. GoesOn asking (asks_from names (k + 1) m next) before now) (sym grown) both
 
-  -- it could not be read
+  -- the read of the next file failed, or memory ran out
   pub files_stop : (why : Stop) → k < length names → name ≡ get_or names k [] → OnlyReads (λ n. n ≡ name) mid now → HandsOut name (table_limit + 1) mid now → StopsAt name mid now why
       → GoesOn asking (asks_from names k bytes_read next) before mid → StopsHaving asking before now why
   files_stop why h is effect handed s g =
       let rest : Option (List ℕ) → Asking = λ first. asks_from names (k + 1) (bytes_read ++ first ∷ []) next in
       having_from asking (asks name table_limit rest) before mid now why (subst (λ a. GoesOn asking a before mid) (here h is) g) (stops_first name table_limit rest mid now why effect handed s)
 
-  -- memory ran out after it had been read
+  -- memory ran out, and after the files so far none but the next one was read
   pub files_after : (why : Stop) → k < length names → name ≡ get_or names k [] → OnlyReads (λ n. n ≡ name) mid now → HandsOut name (table_limit + 1) mid now → stop_outcome why ≡ None
       → GoesOn asking (asks_from names k bytes_read next) before mid → StopsHaving asking before now why
   files_after why h is effect handed none g =

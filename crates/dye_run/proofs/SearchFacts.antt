@@ -99,7 +99,7 @@ pub matched_shown : (r : ResolvedJob) (claim : Claim) (lent : Option (Bor Shown)
     → option_map (λ m. shown_view m.now) lent ≡ matched_values r claim
 matched_shown r claim lent matched is values = lent_values lent ∙ ap (option_map shown_view) is ∙ values
 
--- so do the listed recipes
+-- the listed recipes fit the job
 pub each_fits : (r : ResolvedJob) (each : List Shown) (recipes : List (ArrayVec ℕ)) → IsLand r → All (λ s. IsRecipe r.grid s.items) recipes → map shown_view each ≡ map (λ s. recipe_values r s.items) recipes → All (λ s. FitsJob r.job (shown_view s)) each
 each_fits r each recipes land all is = λ k d h.
     let f : ArrayVec ℕ → RecipeValues = λ s. recipe_values r s.items in

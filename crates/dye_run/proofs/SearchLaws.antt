@@ -1,5 +1,5 @@
--- The reports of `predict`, `correct` and `check`: their enclosures hold those of every finer
--- scale.
+-- The reports of `predict`, `correct`, `check` and `demo` are proper: each writes the file of its
+-- command, if there is one, and its enclosures hold those of every finer scale.
 use Rattle.std.proofs.Common.{ℕ, List, [], ◌∷◌, Some, None, All, flat_map, refl}
 use Rattle.std.proofs.lemmas.List.Elements.{All-append, All-nil}
 use Rattle.box_search.specs.Result.{SearchResult}

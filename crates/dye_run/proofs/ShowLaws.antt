@@ -1,5 +1,5 @@
--- The report of `show`: its enclosures hold those of every finer scale, and its verdicts are true
--- there.
+-- The report of `show`: its enclosures hold those of every finer scale, and a pass or a fail under
+-- a light stays one there.
 use Rattle.std.proofs.Common.{◌+◌, ◌*◌, ◌<◌, ◌≤◌, ℕ, List, [], ◌∷◌, Some, None, All, lit≤, refl, arith}
 use Rattle.std.specs.List.{AllZip}
 use Rattle.std.proofs.lemmas.List.Elements.{All-cons}
@@ -28,14 +28,14 @@ use Rattle.dye_run.proofs.Colours.{no_more}
 use Rattle.dye_run.proofs.Proper.{IsProper, proper_report, proper_then}
 use Rattle.dye_run.proofs.Verdicts.{stands}
 
--- a recipe as a box: its lower and its upper number of steps of each dye are equal
+-- in the portions of one recipe, taken as a box, the fewest steps are at most the most
 one_recipe : (dyes : List DyeData) (recipe : List ℕ) → All (λ p. p.fewest ≤ p.most) (portions dyes recipe recipe)
 unfolding portions
 one_recipe [] recipe = λ k d h. absurd (omega arith)
 one_recipe (dye ∷ dyes) [] = λ k d h. absurd (omega arith)
 one_recipe (dye ∷ dyes) (n ∷ recipe) = All-cons (λ p. p.fewest ≤ p.most) (record { dye = dye; fewest = n; most = n }) (portions dyes recipe recipe) (omega arith) (one_recipe dyes recipe)
 
--- the colour of spectra under weights
+-- the colour of a spectrum under weights keeps enclosing where the scale grows from n to m * n
 colour_encloses : (n m : ℕ) (weights : WeightTable) (spectrum finer : List Ends) → 0 < m → EnclosesWaves m spectrum finer → EnclosesLab m (colour_under weights n spectrum) (colour_under weights (m * n) finer)
 unfolding colour_under ratios_at
 colour_encloses n m weights spectrum finer some h =

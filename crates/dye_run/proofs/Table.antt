@@ -52,7 +52,7 @@ form_proper contents (correct words) o w = job_proper contents With words.job (s
 form_proper contents (check words) o w = cert_proper contents check_rule words.job words.cert check_report o check_proper w
 form_proper contents (demo number) o w = subst (IsProper None) (sym w) (demo_proper number (demo_job number))
 
--- where the files are known, the outcome is the one that they determine
+-- where the files are known, a possible result of a read is that of the file
 same_bytes_read : (contents : Option Contents) (c : Contents) (name : List ℕ) (limit : ℕ) (bytes_read : Option (List ℕ)) → contents ≡ Some c → CanBeRead contents name limit bytes_read → IsSomeAnd (c.file name) (λ bytes. bytes_read ≡ up_to_limit limit bytes)
 same_bytes_read contents c name limit bytes_read e w =
     let P : Option Contents → Type 0 = λ o. IfSome o (λ c. IsSomeAnd (c.file name) (λ bytes. bytes_read ≡ up_to_limit limit bytes)) in subst P e w.known
@@ -61,6 +61,7 @@ only_bytes_read : (file : Option (List ℕ)) (name : List ℕ) (limit : ℕ) (by
 only_bytes_read None name limit bytes_read go r h e = absurd h
 only_bytes_read (Some bytes) name limit bytes_read go r h e = ap go h ∙ e
 
+-- where the files are known, the outcome is the one that they determine
 only_outcome : (contents : Option Contents) (c : Contents) (asking : Asking) (o p : Outcome) → contents ≡ Some c → result_of c.file asking ≡ Ok o → Answers contents asking p → p ≡ o
 only_outcome contents c (answers x) o p e r w = w ∙ cc
 only_outcome contents c (asks name limit next) o p e r w =
@@ -126,7 +127,7 @@ tells_ended form before after status (ended.spoiled r name bytes w e s fails put
 tells_ended form before after status (ended.out_of_memory s f l) =
     by_kind form before after status table.out_of_memory 10 s refl (record { has_form = f; leaves = l })
 
--- where words have no form, the usage text was to be printed
+-- a call whose words have no form ends with status 1 or 4
 no_form_ended : (form : Option Form) (before after : World) (status : ℕ) → Ended form before after status → form ≡ None → (status ≡ 1) ⊎ (status ≡ 4)
 no_form_ended None before after status (ended.spoke o (inl w) s l searched) n = inl (s ∙ ap status_of w)
 no_form_ended None before after status (ended.spoke o (inr u) s l searched) n = absurd u.1.due
@@ -142,7 +143,7 @@ module _ (form : Option Form) (before after : World) (status : ℕ) where
   printed : (o p : Outcome) → p ≡ o → status ≡ status_of p → Leaves before after (text_of p) (written_of p) → table.IsPrinted form before after o status
   printed o p e s l = inr (s ∙ ap status_of e, subst (λ o. Leaves before after (text_of o) (written_of o)) e l)
 
-  -- the file that could not be written is that of the outcome
+  -- what holds of the file that an outcome writes, if any, holds of the file of its report
   same_file : (o : Outcome) (r : Report) (file : List ℕ × List ℕ) (P : List ℕ × List ℕ → Type 0) → reported r ≡ o → r.written ≡ Some file → IfSome (written_of o) P → P file
   same_file o r file P e w h =
       let Q : Option (List ℕ × List ℕ) → Type 0 = λ f. IfSome f P in
@@ -169,11 +170,12 @@ module _ (form : Option Form) (before after : World) (status : ℕ) where
       (only_outcome before.shelf.contents c (asking_for form) o (reported mine) e r w) is writes))
   reliable_ended (ended.out_of_memory s f l) c o e r reads writes puts = (inl s, l.counted)
 
--- the file of a report is that of the command
+-- the file of a report that is a proper outcome has the name `by`
 own_of : {by : Option (List ℕ)} (o : Outcome) → IsProper by o → (r : Report) → o ≡ reported r → name_written r ≡ by
 own_of o (report p e own finer) r is = let same : p ≡ r = cc in ap name_written (sym same) ∙ own
 own_of o (refusal fault e) r is = cc
 
+-- the name of the file of a report is that of the command's file
 pub writes_own : (form : Option Form) (contents : Option Contents) (r : Report) → Answers contents (asking_for form) (reported r) → name_written r ≡ written_by form
 writes_own None contents r w = cc
 writes_own (Some f) contents r w = own_of (reported r) (form_proper contents f (reported r) w) r refl

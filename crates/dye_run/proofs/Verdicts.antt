@@ -1,5 +1,5 @@
--- A quantity that keeps enclosing has the same verdict at every finer scale, with a tolerance or
--- without.
+-- A quantity that keeps enclosing stands at every finer scale: where it has a tolerance, a pass or
+-- a fail at the base scale stays one.
 use Rattle.std.proofs.Common.{ℕ, ◌*◌, ◌<◌, Option, Some, None, List}
 use Rattle.interval_specs.specs.Ends.{Ends}
 use Rattle.interval_specs.specs.Encloses.{Encloses}

@@ -50,7 +50,7 @@ known_not_negative r x e t = let s : le_z (pos 0) x ≡ true = sym (ap (le_z (po
 pub known_negative : (r x : ℤ) → r ≡ x → le_z (pos 0) r ≡ false → x ≤ℤ pos 0
 known_negative r x e t = let s : le_z (pos 0) x ≡ false = sym (ap (le_z (pos 0)) e) ∙ t in omega (arith, ints)
 
--- the four products of ends
+-- the four products of ends have room
 pub low_low : (a b : Ends) → magnitude_of a * magnitude_of b ≤ 10 ^ 37 → unsigned_abs (a.lo *ℤ b.lo) ≤ 10 ^ 37
 low_low a b h = corner_small a b a.lo b.lo h (lo_small a) (lo_small b)
 
@@ -82,7 +82,7 @@ greatest_room a b h =
 pub unit_room : (k n : ℕ) → k ≤ 10 ^ 25 * n → n ≤ 10 ^ 12 → k ≤ 10 ^ 37
 unit_room k n h m = omega arith
 
--- an end counted in parts of another scale has room
+-- an end times the unit of a scale has room
 pub scaled_room : (x : ℤ) (n : ℕ) → unsigned_abs x ≤ 10 ^ 25 → n ≤ 10 ^ 12 → unsigned_abs (x *ℤ pos n) ≤ 10 ^ 37
 scaled_room x n h m = product_small x (pos n) (10 ^ 25) (10 ^ 12) h m
 

@@ -41,8 +41,8 @@ rest_fits n x some =
     digits_fit : (s t f : ℕ) → s < 16777216 → t < 16777216 → f < 65536 → s * 1099511627776 + t * 65536 + f < 2 ^ 64
     digits_fit s t f p q r = omega arith
 
--- three steps of long division put together: the dividend from its digits, the quotient from its
--- own
+-- three steps of long division put together: the dividend is n times the first three digits of the
+-- quotient, plus f, the dividend of the last step
 joined : (n h l s t f a b c p q r d e g : ℕ) → a * n + p ≡ h → s ≡ p * 16777216 + d → b * n + q ≡ s → t ≡ q * 16777216 + e → c * n + r ≡ t → f ≡ r * 65536 + g → l ≡ d * 1099511627776 + e * 65536 + g → (a * 18446744073709551616 + b * 1099511627776 + c * 65536) * n + f ≡ h * 18446744073709551616 + l
 joined n h l s t f a b c p q r d e g i j k m o u v = omega arith
 

@@ -61,6 +61,6 @@ read_neg r x k e h room = ap (λ z. passed (pos 0 -ℤ z)) e ∙ ap passed (zero
 pub neg_fits : (r x : ℤ) (k : ℕ) → r ≡ x → unsigned_abs x ≤ k → k < 2 ^ 127 → FitsSigned w128 (pos 0 -ℤ r)
 neg_fits r x k e h room = subst (λ z. FitsSigned w128 z) (sym (ap (λ z. pos 0 -ℤ z) e ∙ zero_minus x)) (fits (neg_ℤ x) k (omega (arith, ints)) room)
 
--- a part of a call's result that is known to be z
+-- a result that is known to be z, of a magnitude that leaves room, is passed on unchanged
 pub settled : (r z : ℤ) (k : ℕ) → r ≡ z → unsigned_abs z ≤ k → k < 2 ^ 127 → passed r ≡ z
 settled r z k e h room = ap passed e ∙ to_z-of_z w128 z (fits z k h room)

@@ -33,7 +33,7 @@ product_room f z n g =
     let t : unsigned_abs (f *ℤ n) ≤ 2 ^ 127 - 1 = subst (λ x. unsigned_abs (x *ℤ n) ≤ 2 ^ 127 - 1) (sym g.from_floor) (floor_turned z n g.positive g.room r) in
     fits_signed_from_abs w128 (f *ℤ n) (omega arith)
 
--- the floor is no larger than the dividend
+-- the magnitude of the floor is at most 10^37
 pub floor_room : (f z n : ℤ) → Given f z n → unsigned_abs f ≤ 10 ^ 37
 floor_room f z n g =
     let some = magnitude_positive n g.positive in

@@ -9,7 +9,7 @@ use Rattle.interval_specs.proofs.Roots.{square_power, cube_power, below_le_above
 pub same_ends : (x y : ℤ) (e : Ends) → x ≡ e.lo → y ≡ e.hi → record { lo = x; hi = y } ≡ e
 same_ends x y e p q = λ i. record { lo = p i; hi = q i }
 
--- a result whose ends are those of e
+-- a result that is made of the ends of e is e
 pub is_ends : (r : Ends) (x y : ℤ) (e : Ends) → r ≡ record { lo = x; hi = y } → x ≡ e.lo → y ≡ e.hi → r ≡ e
 is_ends r x y e h p q = h ∙ same_ends x y e p q
 

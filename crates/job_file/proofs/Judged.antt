@@ -59,7 +59,7 @@ ensure_is place rule b = refl
 abbrev pub kind_rules : Place → Bool → Bool → Bool → List Rule
 kind_rules place typed counted ranged = rule_at place WrongKind typed ∷ rule_at place BadCount counted ∷ rule_at place OutOfRange ranged ∷ []
 
--- a value that must be there
+-- reading a value that must be there judges by the rules of its kind
 pub must_read : {A : Type 0} (place : Place) (kind : Kind) (read : Data → Result A JobFault) (value : Option Data → A)
     → ((v : Data) → read v ≡ judge (kind_rules place (kind.has_type v) (kind.has_count v) (kind.is_in_range v)) (value (Some v)))
     → (o : Option Data) → (or_fault place MissingKey o >>= read) ≡ judge (value_rules place true kind o) (value o)
@@ -67,7 +67,7 @@ unfolding judge value_rules
 must_read place kind read value h None = refl
 must_read place kind read value h (Some v) = h v
 
--- a value that may be there
+-- reading a value that may be there judges by the rules of its kind where it is there
 pub may_read : {A : Type 0} (place : Place) (kind : Kind) (read : Data → Result A JobFault) (value : Option Data → A)
     → ((v : Data) → read v ≡ judge (kind_rules place (kind.has_type v) (kind.has_count v) (kind.is_in_range v)) (value (Some v)))
     → (o : Option Data) → or_else (value None) read o ≡ judge (value_rules place false kind o) (value o)

@@ -123,11 +123,12 @@ bath_fits (x ∷ xs) (n ∷ ns) e h =
     let both = both_true (nat_le n x.most) (are_within xs ns) h in
     (leb-true n x.most both.0, bath_fits xs ns (omega (arith, e)) both.1)
 
--- the number of a dye of the job is from 1 to the number of dyes
+-- 1, or a number plus 1, is at least 1
 one_or_more : (b : Bool) (k : ℕ) → 1 ≤ (if b then 1 else (k + 1))
 one_or_more true k = omega arith
 one_or_more false k = omega arith
 
+-- the number of a dye of the job is at least 1
 number_least : (xs : List JobDye) (name : List ℕ) → 1 ≤ number_of xs name
 number_least [] name = omega arith
 number_least (x ∷ xs) name = one_or_more (bytes_eq x.name name) (number_of xs name)

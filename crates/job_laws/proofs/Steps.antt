@@ -11,7 +11,7 @@ err_ok fault x h = cc
 pub ok_same : {A : Type 0} (x y : A) → ◌≡◌ {A = Result A JobFault} (Ok x) (Ok y) → x ≡ y
 ok_same x y h = cc
 
--- what the first of two readings read, and what the second did
+-- an accepted reading of two steps: the first read some x, and the second, given x, read y
 pub bind_ok : {A B : Type 0} (r : Result A JobFault) (f : A → Result B JobFault) (y : B) → (r >>= f) ≡ Ok y → (x : A) × (r ≡ Ok x) × (f x ≡ Ok y)
 bind_ok (Ok x) f y h = (x, refl, h)
 bind_ok (Err fault) f y h = absurd (err_ok fault y h)
@@ -20,18 +20,21 @@ pub then_ok : {B : Type 0} (r : Result (Unit {0}) JobFault) (next : Result B Job
 then_ok (Ok x) next y h = (refl, h)
 then_ok (Err fault) next y h = absurd (err_ok fault y h)
 
--- a reading whose second step is replaced by another
+-- an accepted reading stays so, with the same value, where its second step is replaced by one that
+-- reads this value where the old one did
 pub bind_other : {A B : Type 0} (r : Result A JobFault) (f g : A → Result B JobFault) (y : B) → (r >>= f) ≡ Ok y → ((x : A) → f x ≡ Ok y → g x ≡ Ok y) → (r >>= g) ≡ Ok y
 bind_other (Ok x) f g y h other = other x h
 bind_other (Err fault) f g y h other = absurd (err_ok fault y h)
 
--- a reading whose first step is replaced by another
+-- an accepted reading stays so, with the same value, where its first step is replaced by one that
+-- reads this value where the old one did
 pub bind_first : {A B : Type 0} (r s : Result A JobFault) (f : A → Result B JobFault) (y : B) → (r >>= f) ≡ Ok y → ((x : A) → r ≡ Ok x → s ≡ Ok x) → (s >>= f) ≡ Ok y
 bind_first r s f y h first =
     let a = bind_ok r f y h in
     subst (λ z. (z >>= f) ≡ Ok y) (sym (first a.0 a.1)) a.2
 
--- a reading whose first rule is replaced by another
+-- an accepted reading stays so, with the same value, where its first rule and what follows are
+-- replaced by others that are accepted where they are
 pub then_other : {B : Type 0} (r s : Result (Unit {0}) JobFault) (next last : Result B JobFault) (y : B) → (r >> next) ≡ Ok y → (r ≡ Ok tt → s ≡ Ok tt) → (next ≡ Ok y → last ≡ Ok y) → (s >> last) ≡ Ok y
 then_other r s next last y h first other =
     let a = then_ok r next y h in

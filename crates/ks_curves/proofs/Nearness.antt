@@ -27,7 +27,8 @@ IsNearAbove m e x y = (pos m *ℤ x) ≤ℤ (y +ℤ pos e)
 
 -- ---- quotients of natural numbers
 
--- a is z / q rounded up, b is z' / q rounded up
+-- a is at most z / q rounded up and b at least z' / q: where m * z is at most k * q above z', m * a
+-- is at most k + m above b
 up_near : (m z z' k q a b : ℕ) → 0 < q → a * q < z + q → z' ≤ b * q → m * z ≤ z' + k * q → m * a ≤ b + (k + m)
 up_near m z z' k q a b some below above near =
     let scaled : m * (a * q) ≤ m * (z + q) = mul-le-mul_left m (omega (arith, below)) in
@@ -45,7 +46,8 @@ ceil_near m z z' k q some near =
     let near_pos : IsNearAbove m (k + m) (pos a) (pos b) = omega (arith, ints, h) in
     subst (λ x. IsNearAbove m (k + m) x (ceil_over (pos z') q)) coarse (subst (λ y. IsNearAbove m (k + m) (pos a) y) fine near_pos)
 
--- a is z / q rounded down, b is z' / q rounded down
+-- a + 1 is at least z / q and b at most z' / q: where z' is at most m * z, b is at most m above m *
+-- a
 down_near : (m z z' q a b : ℕ) → 0 < q → z ≤ a * q + q → b * q ≤ z' → z' ≤ m * z → b ≤ m * a + m
 down_near m z z' q a b some above below near =
     let scaled : m * z ≤ m * (a * q + q) = mul-le-mul_left m above in
@@ -98,7 +100,7 @@ times_near m e u x y h =
     let k = mono_left u (pos m *ℤ x) (y +ℤ pos e) h in
     subst (λ z. z ≤ℤ (pos u *ℤ y +ℤ pos (u * e))) (mul_swap_ℤ (pos u) (pos m) x) (subst (λ z. (pos u *ℤ (pos m *ℤ x)) ≤ℤ z) (mul-add_ℤ (pos u) y (pos e)) k)
 
--- the greater of two numbers
+-- a number that is near above another stays so where it is lowered
 below_near : (m e : ℕ) (w x y : ℤ) → w ≤ℤ x → IsNearAbove m e x y → IsNearAbove m e w y
 below_near m e w x y le h = trans_ℤ (pos m *ℤ w) (pos m *ℤ x) (y +ℤ pos e) (mono_left m w x le) h
 

@@ -41,7 +41,7 @@ sum-end n substrate wave ds i sum total le so_far =
 pub sum_by-more : (f : Dyeing → ℕ) (ds : List Dyeing) (i : ℕ) (d : Dyeing) → i < length ds → d ≡ get_or ds i d → sum_by f (take (i + 1) ds) ≡ sum_by f (take i ds) + f d
 sum_by-more f ds i d lt is = ap (sum_by f) (take_more ds i d lt) ∙ sum_by_push f (take i ds) (get_or ds i d) ∙ ap (λ x. sum_by f (take i ds) + f x) (sym is)
 
--- the sum of all units
+-- the units of up to 8 dyeings add up to at most 160,000
 pub units_few : (count : ℕ) (ds : List Dyeing) → length ds ≤ 8 → All (IsDyeing count) ds → unit_sum ds ≤ 160000
 units_few count ds few each =
     let all = sum_by-le (λ (d : Dyeing). d.0) 20000 ds (λ k d lt. (each k d lt).units.1) in

@@ -40,7 +40,8 @@ units_positive dye kept =
 pub squares_positive : (dye : DyeData) → IsDye dye → 0 < square_sum dye.dyeings
 squares_positive dye kept = omega (arith, units_positive dye kept, units_under_squares dye.dyeings)
 
--- the value at the given units, where the numerator is that of a dye
+-- the value at up to 20,000 units, where the numerator is that of a dye, is not below 0, and
+-- bounded
 value_up_to : (n : ℕ) (dye : DyeData) (wave units : ℕ) → IsDye dye → units ≤ 20000 → UpTo (unit_sum dye.dyeings * (10 ^ 4 * n)) (numerator_at n dye.substrate wave dye.dyeings) → UpTo (2 * 10 ^ 8 * n) (value_at n dye wave units)
 unfolding value_at
 value_up_to n dye wave units kept few range =

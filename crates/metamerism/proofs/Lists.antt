@@ -14,6 +14,6 @@ pub map_take-more : {A B : Type 0} (f : A → B) (xs : List A) (i : ℕ) (x : A)
 map_take-more {A = A} {B = B} f xs i x lt here =
     ap (map f) (take_more xs i x lt) ∙ map-append f (take i xs) (get_or xs i x ∷ []) ∙ ap (λ (y : A). map f (take i xs) ++ f y ∷ []) (get_or_from_slice_get xs i x x here)
 
--- the items from an index on, after the item that was read there
+-- the items from an index on are the item that was read there and those after it
 pub drop_read : {A : Type 0} (xs : List A) (i : ℕ) (x : A) → i < length xs → slice_get xs i ≡ Some x → drop i xs ≡ x ∷ drop (i + 1) xs
 drop_read {A = A} xs i x lt here = rw add-one (drop-cons xs i x lt ∙ ap (λ (y : A). y ∷ drop (suc i) xs) (get_or_from_slice_get xs i x x here))

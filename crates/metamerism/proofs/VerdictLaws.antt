@@ -23,7 +23,7 @@ fail_finer t n m d d' some h fails =
     let r = simp parts at (to_parts (pos 1000 *ℤ (pos m *ℤ d.lo)) (pos 1000 *ℤ d'.lo) (mono_left 1000 (pos m *ℤ d.lo) d'.lo h.low)) in
     by_parts_lt (pos (t * (m * n))) (pos 1000 *ℤ d'.lo) (simp parts (omega arith))
 
--- the meaning of the verdict on a light holds of its difference
+-- what a verdict says of the difference under the light with this number
 abbrev pub LightSays : ℕ → ℕ → ℕ → Ends → Verdict → Type 0
 LightSays n t number d Pass = IsPass n t d × (IsFail n t d → ⊥)
 LightSays n t number d (Fail k) = (k ≡ number) × IsFail n t d
@@ -33,6 +33,7 @@ LightSays n t number d Undecided = (IsPass n t d → ⊥) × (IsFail n t d → �
 not_both : (n t : ℕ) (d : Ends) → IsOrdered d → IsPass n t d → IsFail n t d → ⊥
 not_both n t d ordered p f = omega (arith, ints)
 
+-- the verdict on a light says so of its difference
 pub light_says : (n t number : ℕ) (d : Ends) → IsOrdered d → LightSays n t number d (light_verdict n t number d)
 unfolding light_verdict
 light_says n t number d ordered = by (int_le (pos 1000 *ℤ d.hi) (pos (t * n))) (int_lt (pos (t * n)) (pos 1000 *ℤ d.lo)) refl refl

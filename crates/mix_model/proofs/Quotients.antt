@@ -4,7 +4,7 @@ use Rattle.std.proofs.lemmas.Bool.{cases_lt}
 use Rattle.std.proofs.lemmas.Grind.{div_ceil_times}
 use Rattle.std.specs.Int.{div_ceil}
 
--- a quotient rounded up is the least factor that reaches it
+-- z / d rounded up is at most each k for which k * d is at least z
 pub up_least : (z d k : ℕ) → 0 < d → z ≤ k * d → div_ceil z d ≤ k
 up_least z d k some h =
     let near = (div_ceil_times z d some).1 in

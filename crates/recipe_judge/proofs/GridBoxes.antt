@@ -56,7 +56,7 @@ all_is_box (dye ∷ grid) = (omega arith, all_is_box grid)
 pub single_corners : (b : Span) → is_single b ≡ true → b.lo ≡ b.hi
 single_corners b e = (bytes_eq-Decides b.lo b.hi).0 e
 
--- a grid has as many dyes as its box
+-- the box of a grid has 1 to 12 dyes
 pub all_has_dyes : (grid : List DyeCost) → IsGrid grid → HasDyes (all_recipes grid)
 all_has_dyes grid kept =
     let dyes : length {A = ℕ} (map (λ dye. 0) grid) ≡ length grid = length-map grid (λ dye. 0) in

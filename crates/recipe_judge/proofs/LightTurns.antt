@@ -31,7 +31,7 @@ verdict_turn n i ts ds t d lt here ltd hered =
     let later : verdict_from n (i + 1 + 1) (drop (suc i) ts) (drop (suc i) ds) ≡ verdict_from n (i + 1 + 1) (drop (i + 1) ts) (drop (i + 1) ds) = ap (λ k. verdict_from n (i + 1 + 1) (drop k ts) (drop k ds)) (sym next) in
     rw (drop_read ts i t lt here, drop_read ds i d ltd hered) (ap (joint (light_verdict n t (i + 1) d)) later)
 
--- after the last light
+-- after the last light, the verdict so far is the verdict on all
 pub verdict_over : (n i : ℕ) (so_far : Verdict) (ts : List ℕ) (ds : List Ends) (all : Verdict) → length ts ≤ i → joint so_far (verdict_from n (i + 1) (drop i ts) (drop i ds)) ≡ all → so_far ≡ all
 unfolding verdict_from
 verdict_over n i so_far ts ds all le is =
@@ -57,7 +57,8 @@ undecided_stays Undecided Pass e = refl
 undecided_stays Undecided (Fail j) e = refl
 undecided_stays Undecided Undecided e = refl
 
--- the light with a number, whose tolerance and difference are in the lists
+-- the light with this number fails exactly where the lower end of its difference is above its
+-- tolerance
 pub light_fails_is : (n : ℕ) (ts : List ℕ) (ds : List Ends) (light t : ℕ) (d : Ends) → 0 < light → slice_get ts (light - 1) ≡ Some t → slice_get ds (light - 1) ≡ Some d → light_fails n ts ds light ≡ is_fail n t d
 light_fails_is n ts ds zero t d some h k = absurd (omega (arith, some))
 light_fails_is n ts ds (suc i) t d some h k =

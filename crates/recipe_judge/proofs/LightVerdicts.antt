@@ -20,8 +20,7 @@ is_failing Pass = false
 is_failing (Fail light) = true
 is_failing Undecided = false
 
--- where the ends are in order, the verdict under one light is to fail exactly where the lower end
--- is above the tolerance
+-- a verdict of a fail under one light means that the lower end is above the tolerance
 pub verdict_fails : (n t number : ℕ) (d : Ends) → IsOrdered d → light_verdict n t number d ≡ Fail number → is_fail n t d ≡ true
 unfolding light_verdict
 verdict_fails n t number d ordered = by (int_le (pos 1000 *ℤ d.hi) (pos (t * n))) (is_fail n t d) refl where
@@ -30,6 +29,8 @@ verdict_fails n t number d ordered = by (int_le (pos 1000 *ℤ d.hi) (pos (t * n
   by false true is e = refl
   by false false is e = absurd cc
 
+-- where the ends are in order, the verdict under one light is to fail exactly where the lower end
+-- is above the tolerance
 pub verdict_not_fails : (n t number : ℕ) (d : Ends) → IsOrdered d → is_failing (light_verdict n t number d) ≡ is_fail n t d
 unfolding light_verdict
 verdict_not_fails n t number d ordered = by (int_le (pos 1000 *ℤ d.hi) (pos (t * n))) (is_fail n t d) refl refl where
@@ -127,7 +128,7 @@ enclosed_ordered m [] (d' ∷ ds') h = absurd h
 enclosed_ordered m (d ∷ ds) [] h = absurd h
 enclosed_ordered m (d ∷ ds) (d' ∷ ds') h = All-cons IsOrdered d' ds' h.0.ordered (enclosed_ordered m ds ds' h.1)
 
--- the light at an index, whose tolerance and difference are in the lists
+-- the light at an index fails exactly where the lower end of its difference is above its tolerance
 pub fails_at_is : (n : ℕ) (ts : List ℕ) (ds : List Ends) (i t : ℕ) (d : Ends) → slice_get ts i ≡ Some t → slice_get ds i ≡ Some d → fails_at n ts ds i ≡ is_fail n t d
 fails_at_is n [] ds i t d h k = absurd cc
 fails_at_is n (t' ∷ ts) [] i t d h k = absurd cc

@@ -23,7 +23,7 @@ prefix_of s piece = take (append_size s piece) piece
 append_under : (s : ShelfState) (name piece n : List ℕ) → held_under n (append_after s name piece).files ≡ file_after true (bytes_eq n name) (with_piece (append_fails s piece) (prefix_of s piece)) (held_under n s.files)
 append_under s name piece n = under_after true name n (with_piece (append_fails s piece) (prefix_of s piece)) s.files (λ _. refl)
 
--- sizes
+-- ---- how many bytes are appended
 
 fitting_most : (scheduled : Bool) (room size : ℕ) → fitting scheduled room size ≤ size
 fitting_most true room size = grind arith
@@ -45,7 +45,7 @@ prefix_whole s piece h =
     let e : append_size s piece ≡ length piece = whole_step (is_scheduled s.failing s.calls) s.room (length piece) h in
     take_all (append_size s piece) piece (omega arith)
 
--- contents
+-- ---- the contents
 
 added_step : (q fails : Bool) (prefix : List ℕ) (u : Option Held) → option_map (λ f. f.bytes) (file_after true q (with_piece fails prefix) u) ≡ (if q then option_map (λ bytes. bytes ++ prefix) (option_map (λ f. f.bytes) u) else option_map (λ f. f.bytes) u)
 added_step true fails prefix None = refl
@@ -69,7 +69,7 @@ append_contents s t name piece (Ok _) e exact =
     subst P (prefix_whole s piece (sym exact)) (append_adds s t name piece e)
 append_contents s t name piece (Err _) e exact = (append_size s piece, append_adds s t name piece e)
 
--- counts
+-- ---- the counts of failed writes
 
 append_writes : (s t : ShelfState) (name piece n : List ℕ) → t ≡ append_after s name piece → shelf_writes t n ≡ option_map_or (λ f. f.writes) (file_after true (bytes_eq n name) (with_piece (append_fails s piece) (prefix_of s piece)) (held_under n s.files)) s.shared_writes
 append_writes s t name piece n e = ap (λ x. shelf_writes x n) e ∙ ap (λ u. option_map_or (λ f. f.writes) u s.shared_writes) (append_under s name piece n)
@@ -107,7 +107,7 @@ append_counted s t name piece result e held exact =
     counted_as result (append_fails s piece) (shelf_writes s name) (shelf_writes t name) exact
     (counted (append_fails s piece) (shelf_writes s name) (shelf_writes t name) (append_grows s t name piece e name) (append_rose s t name piece e held) (λ f. append_stands s t name piece e f name))
 
--- promises
+-- ---- what is promised
 
 refused_step : (scheduled : Bool) (room size more : ℕ) → scheduled ≡ false → size + more ≤ room → is_refused scheduled room size ≡ false
 refused_step true room size more t h = absurd (false≢true (sym t))

@@ -18,7 +18,8 @@ grows_one n = grind (arith, nat_tests)
 pub rose_one : (n : ℕ) → IsRaised n (one_more n)
 rose_one n = grind (arith, nat_tests)
 
--- the file under a name, where the file under another name was changed, or none was
+-- the file under a name after the file under some name was changed, or none was; q says that the
+-- two names are equal
 abbrev pub file_after : Bool → Bool → (Held → Held) → Option Held → Option Held
 file_after changed q change u = if changed then (if q then option_map change u else u) else u
 

@@ -57,7 +57,7 @@ pushed_there (Some f) r new h = refl
 pushed_there None true new h = refl
 pushed_there None false new h = absurd (false≢true h)
 
--- contents
+-- ---- the contents
 
 empty_file_step : (q : Bool) (u h : Option Held) → (q ≡ true → u ≡ h) → is_some h ≡ true → option_map (λ f. f.bytes) (file_after true q without_bytes u) ≡ (if q then Some [] else option_map (λ f. f.bytes) u)
 empty_file_step true (Some f) h same held = refl
@@ -94,7 +94,7 @@ created_err s t name (failed f e) fails =
 created_err s t name (cleared f h e) fails = absurd (false≢true (sym f ∙ fails))
 created_err s t name (fresh f h e) fails = absurd (false≢true (sym f ∙ fails))
 
--- counts
+-- ---- the counts of failed writes
 
 failed_writes : (s : ShelfState) (name n : List ℕ) → shelf_writes (failed_write s name) n ≡ option_map_or (λ f. f.writes) (file_after true (bytes_eq n name) with_failed_write (held_under n s.files)) (if is_held s name then s.shared_writes else one_more s.shared_writes)
 failed_writes s name n = ap (λ u. option_map_or (λ f. f.writes) u (if is_held s name then s.shared_writes else one_more s.shared_writes)) (failed_under s name n)
@@ -137,14 +137,14 @@ created_other_kind s t name (failed f e) = λ n. ap (λ x. shelf_reads x n) e �
 created_other_kind s t name (cleared f h e) = λ n. ap (λ x. shelf_reads x n) e ∙ ap (λ u. option_map_or (λ f. f.reads) u s.shared_reads) (empty_file_under s name n) ∙ kept_or (λ f. f.reads) without_bytes true (bytes_eq n name) (held_under n s.files) s.shared_reads (λ _. refl)
 created_other_kind s t name (fresh f h e) = λ n. ap (λ x. shelf_reads x n) e ∙ ap (λ u. option_map_or (λ f. f.reads) u s.shared_reads) (under_pushed n s.files (new_file s name)) ∙ pushed_or (λ f. f.reads) (held_under n s.files) (bytes_eq name n) (new_file s name) s.shared_reads refl
 
--- bytes handed out
+-- ---- the bytes handed out
 
 created_handed : (s t : ShelfState) (name : List ℕ) → Created s t name → (n : List ℕ) → shelf_handed t n ≡ shelf_handed s n
 created_handed s t name (failed f e) = λ n. ap (λ x. shelf_handed x n) e ∙ ap (λ u. option_map_or (λ f. f.handed) u 0) (failed_under s name n) ∙ kept_or (λ f. f.handed) with_failed_write true (bytes_eq n name) (held_under n s.files) 0 (λ _. refl)
 created_handed s t name (cleared f h e) = λ n. ap (λ x. shelf_handed x n) e ∙ ap (λ u. option_map_or (λ f. f.handed) u 0) (empty_file_under s name n) ∙ kept_or (λ f. f.handed) without_bytes true (bytes_eq n name) (held_under n s.files) 0 (λ _. refl)
 created_handed s t name (fresh f h e) = λ n. ap (λ x. shelf_handed x n) e ∙ ap (λ u. option_map_or (λ f. f.handed) u 0) (under_pushed n s.files (new_file s name)) ∙ pushed_or (λ f. f.handed) (held_under n s.files) (bytes_eq name n) (new_file s name) 0 refl
 
--- promises
+-- ---- what is promised
 
 created_held : (s t : ShelfState) (name : List ℕ) → Created s t name → (n : List ℕ) → IsSome (held_under n s.files) → IsSome (held_under n t.files)
 created_held s t name (failed f e) = λ n h. let Q : Option Held → Type 0 = λ u. IsSome u in subst Q (sym (ap (λ x. held_under n x.files) e ∙ failed_under s name n)) (still_held with_failed_write true (bytes_eq n name) (held_under n s.files) h)

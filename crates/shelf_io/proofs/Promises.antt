@@ -13,7 +13,7 @@ and_true : (a b : Bool) → a ≡ true → b ≡ true → (a && b) ≡ true
 and_true true b h k = k
 and_true false b h k = absurd (false≢true h)
 
--- no call of a shelf whose list is empty fails
+-- where no call is scheduled to fail, a given one is not
 pub none_fails : (failing : List ℕ) (calls : ℕ) → none_scheduled failing ≡ true → is_scheduled failing calls ≡ false
 none_fails [] calls h = refl
 none_fails (n ∷ ns) calls h = absurd (false≢true h)

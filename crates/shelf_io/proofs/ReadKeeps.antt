@@ -36,7 +36,7 @@ change s name offset size = with_read (read_fails s name) (read_size s name offs
 read_under : (s : ShelfState) (name : List ℕ) (offset size : ℕ) (n : List ℕ) → held_under n (read_after s name offset size).files ≡ file_after true (bytes_eq n name) (change s name offset size) (held_under n s.files)
 read_under s name offset size n = under_after true name n (change s name offset size) s.files (read_name (read_fails s name) (read_size s name offset size))
 
--- the counts of names that are not held
+-- the count that names without a file share, after a read of the name
 abbrev shared_after : ShelfState → List ℕ → ℕ
 shared_after s name = if is_held s name then s.shared_reads else one_more s.shared_reads
 
@@ -47,13 +47,14 @@ shared_grows false shared = grows_one shared
 reads_are : (s : ShelfState) (name : List ℕ) (offset size : ℕ) (n : List ℕ) → shelf_reads (read_after s name offset size) n ≡ option_map_or (λ f. f.reads) (file_after true (bytes_eq n name) (change s name offset size) (held_under n s.files)) (shared_after s name)
 reads_are s name offset size n = ap (λ u. option_map_or (λ f. f.reads) u (shared_after s name)) (read_under s name offset size n)
 
--- the file under the name that is read: a failure raises its count, and a success leaves it
--- unchanged
+-- a read that does not fail is of a held name
 fails_held : (scheduled : Bool) (u : Option Held) → (scheduled || not (is_some u)) ≡ false → IsSome u
 fails_held true u h = absurd (false≢true (sym h))
 fails_held false (Some f) h = refl
 fails_held false None h = absurd (false≢true (sym h))
 
+-- the file under the name that is read: a failure raises its count, and a success leaves it
+-- unchanged
 own_count : (fails q : Bool) (count : ℕ) (u : Option Held) (shared : ℕ) → q ≡ true → (fails ≡ false → IsSome u) → CountsFailure fails (option_map_or (λ f. f.reads) u shared) (option_map_or (λ f. f.reads) (file_after true q (with_read fails count) u) (if is_some u then shared else one_more shared))
 own_count fails false count u shared e h = absurd (false≢true e)
 own_count true true count None shared e h = (grows_one shared, rose_one shared)
@@ -77,7 +78,7 @@ held_same g false u = refl
 held_after : (s : ShelfState) (name : List ℕ) (offset size : ℕ) (n : List ℕ) → is_held (read_after s name offset size) n ≡ is_held s n
 held_after s name offset size n = ap is_some (read_under s name offset size n) ∙ held_same (change s name offset size) (bytes_eq n name) (held_under n s.files)
 
--- where no call is scheduled to fail, a read of any name leaves the count of a held name unchanged
+-- a read that is not scheduled to fail leaves the count of each held name unchanged
 quiet : (fails scheduled q : Bool) (count : ℕ) (h u : Option Held) (shared shared' : ℕ) → (q ≡ true → u ≡ h) → fails ≡ (scheduled || not (is_some h)) → scheduled ≡ false → IsSome u
     → option_map_or (λ f. f.reads) (file_after true q (with_read fails count) u) shared' ≡ option_map_or (λ f. f.reads) u shared
 quiet fails scheduled q count h None shared shared' same c t i = absurd (false≢true i)
@@ -118,7 +119,7 @@ read_only s t name offset size e = record {
       subst P (sym e) (ap (λ b. none_scheduled s.failing && (b || nat_lt 0 s.slots) && nat_le bytes s.room) (held_after s name offset size n) ∙ h);
 }
 
--- a promised read does not fail
+-- a read of a held name that is not scheduled to fail does not fail
 passes : (scheduled : Bool) (u : Option Held) → scheduled ≡ false → IsSome u → (scheduled || not (is_some u)) ≡ false
 passes true u t h = absurd (false≢true (sym t))
 passes false (Some f) t h = refl
@@ -128,12 +129,13 @@ pub is_fine : {T E : Type 0} (result : Result T E) → is_err result ≡ false �
 is_fine (Ok _) h = refl
 is_fine (Err _) h = absurd (false≢true (sym h))
 
+-- a promised read does not fail
 pub read_promised : {E : Type 0} (s : ShelfState) (name : List ℕ) (result : Result ℕ E) → is_err result ≡ read_fails s name → IsTrue (promises_reads s name) → IsOk result
 read_promised s name result exact h =
     let w = reads_facts s name h in
     is_fine result (exact ∙ passes (is_scheduled s.failing s.calls) (held_under name s.files) (none_fails s.failing s.calls w.none) w.held)
 
--- bytes handed out
+-- ---- the bytes handed out
 
 handed_step : (fails q : Bool) (count : ℕ) (u : Option Held) → option_map_or (λ f. f.handed) (file_after true q (with_read fails count) u) 0 ≤ option_map_or (λ f. f.handed) u 0 + (if q then (if fails then 0 else count) else 0)
 handed_step fails true count None = omega arith

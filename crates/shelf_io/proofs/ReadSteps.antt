@@ -92,7 +92,7 @@ held_after s name offset size seen at count calls d file scheduled e p g t unsai
     (changed s name seen at d file (with_handed count) e p g w ∙ ap (λ change. change_under name change s.files) (giving (read_fails s name) count (read_size s name offset size) (held_passes s name seen at d scheduled e p g t unsaid) k))
     (shared_held (held_under name s.files) d s.shared_reads found) h
 
--- .. and which bytes
+-- the bytes that a read of a held name returns are those of its file from the offset on
 pub held_bytes : (s : ShelfState) (name : List ℕ) (seen : List Held) (at offset count : ℕ) (d : Held) (bytes into : List ℕ) → seen ≡ s.files → Some at ≡ index_of name seen → d ≡ get_or s.files at d → bytes ≡ d.bytes → 1 ≤ s.most → count ≡ min s.most (min (length into) (length bytes - offset)) → take count into ≡ take count (drop offset bytes)
     → Reads {E = Failed} (Some (shelf_contents s)) name offset (Ok count) into
 held_bytes s name seen at offset count d bytes into e p g b most h t =

@@ -23,7 +23,7 @@ true_step true false h k = sym (h refl)
 true_step false true h k = k refl
 true_step false false h k = refl
 
--- the order of two names does not matter
+-- whether two names are equal does not depend on their order
 pub bytes_eq_comm : (a b : List ℕ) → bytes_eq a b ≡ bytes_eq b a
 bytes_eq_comm a b = true_step (bytes_eq a b) (bytes_eq b a) (λ h. (bytes_eq-Decides b a).1 (sym ((bytes_eq-Decides a b).0 h))) (λ h. (bytes_eq-Decides a b).1 (sym ((bytes_eq-Decides b a).0 h)))
 

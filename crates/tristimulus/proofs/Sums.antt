@@ -110,7 +110,7 @@ pub magnitude-positive : (z : ℤ) → pos 0 <ℤ z → 0 < unsigned_abs z
 magnitude-positive (pos a) h = omega (arith, ints)
 magnitude-positive (negsuc a) h = absurd (omega (arith, ints))
 
--- the same under weights that satisfy the invariant, at one of their wavelengths
+-- one more wavelength, as in `step`, under weights that satisfy the invariant
 pub step-kept : (column wave end unit : ℕ) (w : WeightTable) (sum reflectance : Ends) → IsWeightTable w → column < 3 → wave < end → end ≡ length w.weights → unit ≤ 10 ^ 12 → UpTo unit reflectance
     → MagnitudeUpTo (magnitude_sum column (take wave w.weights) * unit) sum → Step column wave unit w.weights sum reflectance
 step-kept column wave end unit w sum reflectance kept of_three lt is least part before =

@@ -7,7 +7,8 @@ use Rattle.interval_specs.specs.Operations.{cut_low_at, cut_high_at, hull_of}
 use Rattle.interval_specs.specs.Laws.{CutLowEncloses, CutHighEncloses, HullEncloses}
 use Rattle.interval_specs.proofs.Order.{mono_left, trans_ℤ, refl_ℤ, mul_swap_ℤ, either_max, either_min, max_left, max_right, min_left, min_right}
 
--- m times the greater of two numbers, below the greater of two others
+-- where two numbers are at least m times two others, the greater is at least m times the greater of
+-- the others
 max_above : (m : ℕ) (a b a' b' : ℤ) → (pos m *ℤ a) ≤ℤ a' → (pos m *ℤ b) ≤ℤ b' → (pos m *ℤ int_max a b) ≤ℤ int_max a' b'
 max_above m a b a' b' p q =
     either_max (λ z. (pos m *ℤ z) ≤ℤ int_max a' b') a b (trans_ℤ (pos m *ℤ a) a' (int_max a' b') p (max_left a' b')) (trans_ℤ (pos m *ℤ b) b' (int_max a' b') q (max_right a' b'))

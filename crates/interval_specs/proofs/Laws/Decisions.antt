@@ -55,8 +55,8 @@ still_below m k k' x x' some e h p =
 pub still_not_above_0 : (m : ℕ) (x x' : ℤ) → x' ≤ℤ (pos m *ℤ x) → x ≤ℤ pos 0 → x' ≤ℤ pos 0
 still_not_above_0 m x x' h p = let q = mono_left m x (pos 0) p in trans_ℤ x' (pos m *ℤ x) (pos 0) h (omega (arith, ints))
 
--- a choice of two forms, or the hull of both where neither test holds: a test that holds at the
--- coarse scale decides alike at the fine one
+-- a choice of two forms, or their hull where no test holds, encloses the finer choice, where a test
+-- that holds at the coarse scale decides alike at the fine one
 pub choice_encloses : (m : ℕ) (f s f' s' : Bool) (a b a' b' : Ends) → (f ≡ true → f' ≡ true) → (s ≡ true → (s' ≡ true) × (f' ≡ false)) → Encloses m a a' → Encloses m b b' → Encloses m (if f then a else (if s then b else (hull_of a b))) (if f' then a' else (if s' then b' else (hull_of a' b')))
 choice_encloses m true s true s' a b a' b' u v p q = p
 choice_encloses m true s false s' a b a' b' u v p q = let e = u refl in cc

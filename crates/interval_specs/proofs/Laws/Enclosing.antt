@@ -42,7 +42,7 @@ pub one_encloses : (n m : ℕ) → Encloses m (one_at n) (one_at (m * n))
 unfolding one_at
 one_encloses n m = record { low = omega (arith, ints); high = omega (arith, ints); ordered = refl_ℤ (pos (m * n)) }
 
--- an end that is not negative, or positive, stays so at a finer scale
+-- a lower end that is not negative stays so at a finer scale
 pub low_not_negative : (m : ℕ) (a b : Ends) → Encloses m a b → pos 0 ≤ℤ a.lo → pos 0 ≤ℤ b.lo
 low_not_negative m a b h p = trans_ℤ (pos 0) (pos m *ℤ a.lo) b.lo (times_not_negative m a.lo p) h.low
   where

@@ -1,4 +1,4 @@
--- The laws of a magnitude and of a square.
+-- The laws of the absolute value and of the square.
 use Rattle.std.proofs.Common.{ℕ, ℤ, pos, negsuc, ◌≡◌, true, false, ◌*◌, ◌≤◌, ◌<◌, ◌*ℤ◌, neg_ℤ, ◌≤ℤ◌, ◌<ℤ◌, unsigned_abs, refl, ap, subst, arith, mul-le-mul_left, mul-pos, ◌∙◌, Bool, ◌&&◌, min, max, int_le, if◌then◌else◌, mul-le-mul}
 use borrow.Author.Differences.{up, down}
 use Rattle.std.proofs.lemmas.Int.{ints, clamps, by_lt_z}
@@ -36,7 +36,7 @@ least_magnitude_around a h k = by (int_le a.lo (pos 0)) (int_le (pos 0) a.hi) re
     by false t e f = absurd (omega (arith, ints))
     by true false e f = absurd (omega (arith, ints))
 
--- the least magnitude is at most each end's magnitude
+-- the least magnitude is at most the greater of the ends' magnitudes
 pub least_magnitude_small : (a : Ends) → least_magnitude a ≤ magnitude_of a
 least_magnitude_small a = by (holds_zero a)
   where
@@ -136,7 +136,7 @@ square_encloses n m a a' some finer p =
       ordered = floor_le_ceil (pos (x' * x')) (pos (y' * y')) (m * n) (omega (arith, ints));
     }
 
--- ---- the magnitude by its cases
+-- ---- the absolute value by its cases
 
 -- the two magnitudes of ends on one side of 0
 greater_above : (x y : ℤ) → pos 0 ≤ℤ x → x ≤ℤ y → pos (max (unsigned_abs x) (unsigned_abs y)) ≡ y
@@ -158,7 +158,7 @@ lesser_below x y q r = omega (arith, ints)
 greater_around : (x y : ℤ) → x ≤ℤ pos 0 → pos 0 ≤ℤ y → pos (max (unsigned_abs x) (unsigned_abs y)) ≡ int_max y (neg_ℤ x)
 greater_around x y q r = omega (arith, ints, clamps)
 
--- an interval that is not negative is its own magnitude
+-- the absolute value of an interval that is not negative is the interval itself
 pub absolute_above : (a : Ends) → pos 0 ≤ℤ a.lo → a.lo ≤ℤ a.hi → absolute_of a ≡ a
 unfolding absolute_of
 absolute_above a p o =
@@ -167,7 +167,7 @@ absolute_above a p o =
     (λ s. ap pos (least_magnitude_around a s (trans_ℤ (pos 0) a.lo a.hi p o)) ∙ antisym_ℤ (pos 0) a.lo p s) in
     λ i. record { lo = low i; hi = greater_above a.lo a.hi p o i }
 
--- the magnitude of an interval that is not positive is its negative
+-- the absolute value of an interval that is not positive is its negative
 pub absolute_below : (a : Ends) → a.hi ≤ℤ pos 0 → a.lo ≤ℤ a.hi → absolute_of a ≡ record { lo = neg_ℤ a.hi; hi = neg_ℤ a.lo }
 unfolding absolute_of
 absolute_below a p o =
@@ -176,12 +176,13 @@ absolute_below a p o =
     (λ s. ap pos (least_magnitude_around a (trans_ℤ a.lo a.hi (pos 0) o p) s) ∙ ap neg_ℤ (antisym_ℤ (pos 0) a.hi s p)) in
     λ i. record { lo = low i; hi = greater_below a.lo a.hi p o i }
 
--- the magnitude of an interval that holds 0 begins at 0
+-- the absolute value of an interval that holds 0 goes from 0 to the greater of its upper end and
+-- the negative of its lower end
 pub absolute_around : (a : Ends) → a.lo ≤ℤ pos 0 → pos 0 ≤ℤ a.hi → absolute_of a ≡ record { lo = pos 0; hi = int_max a.hi (neg_ℤ a.lo) }
 unfolding absolute_of
 absolute_around a p o = λ i. record { lo = ap pos (least_magnitude_around a p o) i; hi = greater_around a.lo a.hi p o i }
 
--- the square of an interval is the square of its magnitude
+-- the square of an interval has the squares of the ends of its absolute value, rounded outwards
 pub square_by_magnitude : (n : ℕ) (a : Ends) → square_at n a ≡ record { lo = floor_over ((absolute_of a).lo *ℤ (absolute_of a).lo) n; hi = ceil_over ((absolute_of a).hi *ℤ (absolute_of a).hi) n }
 unfolding square_at absolute_of
 square_by_magnitude n a = refl

@@ -8,7 +8,7 @@ use Rattle.interval_specs.specs.Laws.{ProductEncloses}
 use Rattle.interval_specs.proofs.Order.{parts, by_parts, to_parts, mono_left, trans_ℤ, corner_low, corner_high, least_first, least_second, least_third, least_fourth, greatest_first, greatest_second, greatest_third, greatest_fourth, any_least, any_greatest}
 use Rattle.interval_specs.proofs.Rounds.{floor_encloses, ceil_encloses, floor_le_ceil}
 
--- the corner of two intervals, in units m times finer
+-- the product of m times x and m times y is m * m times the product of x and y
 corner_is : (m : ℕ) (x y : ℤ) → (pos m *ℤ x) *ℤ (pos m *ℤ y) ≡ pos (m * m) *ℤ (x *ℤ y)
 corner_is m x y = same_in ((pos m *ℤ x) *ℤ (pos m *ℤ y)) (pos (m * m) *ℤ (x *ℤ y)) (simp parts (omega arith))
 

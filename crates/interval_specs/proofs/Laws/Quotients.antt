@@ -12,7 +12,7 @@ use Rattle.interval_specs.proofs.Order.{parts, by_parts, to_parts, mono_left, tr
 use Rattle.interval_specs.proofs.Rounds.{floor_by_zero, ceil_by_zero, floor_mono, ceil_mono, floor_encloses, ceil_encloses, floor_le_ceil}
 use Rattle.interval_specs.proofs.Laws.Enclosing.{outer_ordered}
 
--- the floor at the fine scale, where the inequality of the two quotients is given by products
+-- where x / y is at most x' / y', m times the coarse floor is at most the fine floor
 down_finer : (n m : ℕ) (x x' y y' : ℤ) → pos 0 <ℤ y → pos 0 <ℤ y' → (y' *ℤ x) ≤ℤ (y *ℤ x') → (pos m *ℤ quotient_down n x y) ≤ℤ quotient_down (m * n) x' y'
 down_finer n m x x' y y' some some' h =
     let k : (pos (unsigned_abs y') *ℤ x) ≤ℤ (pos (unsigned_abs y) *ℤ x') = subst (λ z. (z *ℤ x) ≤ℤ (pos (unsigned_abs y) *ℤ x')) (magnitude_is y' some') (subst (λ z. (y' *ℤ x) ≤ℤ (z *ℤ x')) (magnitude_is y some) h) in
@@ -35,7 +35,7 @@ up_finer n m x x' y y' some some' h =
 turn : (m : ℕ) (c x : ℤ) → c *ℤ (pos m *ℤ x) ≡ (pos m *ℤ c) *ℤ x
 turn m c x = same_in (c *ℤ (pos m *ℤ x)) ((pos m *ℤ c) *ℤ x) (simp parts (omega arith))
 
--- below each fine quotient is one of the two coarse quotients of the lower end
+-- m times a bound that is at most both coarse quotients of x is at most the fine quotient
 quotient_low : (n m : ℕ) (b : Ends) (x x' y' : ℤ) (l : ℤ) → pos 0 <ℤ b.lo → pos 0 <ℤ b.hi → pos 0 <ℤ y' → (pos m *ℤ b.lo) ≤ℤ y' → y' ≤ℤ (pos m *ℤ b.hi) → (pos m *ℤ x) ≤ℤ x' → l ≤ℤ quotient_down n x b.lo → l ≤ℤ quotient_down n x b.hi → (pos m *ℤ l) ≤ℤ quotient_down (m * n) x' y'
 quotient_low n m b x x' y' l low high some p q h near far =
     by_lt_z x (pos 0)
@@ -46,7 +46,7 @@ quotient_low n m b x x' y' l low high some p q h near far =
     let step = trans_ℤ (y' *ℤ x) ((pos m *ℤ b.hi) *ℤ x) (b.hi *ℤ x') (wider x y' (pos m *ℤ b.hi) s q) (subst (λ z. z ≤ℤ (b.hi *ℤ x')) (turn m b.hi x) (mono_by b.hi (pos m *ℤ x) x' high h)) in
     trans_ℤ (pos m *ℤ l) (pos m *ℤ quotient_down n x b.hi) (quotient_down (m * n) x' y') (mono_left m l (quotient_down n x b.hi) far) (down_finer n m x x' b.hi y' high some step))
 
--- above each fine quotient is one of the two coarse quotients of the upper end
+-- m times a bound that is at least both coarse quotients of x is at least the fine quotient
 quotient_high : (n m : ℕ) (b : Ends) (x x' y' : ℤ) (g : ℤ) → pos 0 <ℤ b.lo → pos 0 <ℤ b.hi → pos 0 <ℤ y' → (pos m *ℤ b.lo) ≤ℤ y' → y' ≤ℤ (pos m *ℤ b.hi) → x' ≤ℤ (pos m *ℤ x) → quotient_up n x b.lo ≤ℤ g → quotient_up n x b.hi ≤ℤ g → quotient_up (m * n) x' y' ≤ℤ (pos m *ℤ g)
 quotient_high n m b x x' y' g low high some p q h near far =
     by_lt_z x (pos 0)

@@ -31,7 +31,7 @@ fraction_encloses m num den a a' p =
       ordered = floor_le_ceil (a'.lo *ℤ pos num) (a'.hi *ℤ pos num) den (wider (pos num) a'.lo a'.hi (le_pos num) p.ordered);
     }
 
--- the multiple of any interval by 0 is 0
+-- any interval times the fraction 0 / den is the interval from 0 to 0
 pub none_of : (den : ℕ) (a : Ends) → fraction_of 0 den a ≡ nothing
 unfolding fraction_of floor_over ceil_over
 none_of den a =

@@ -121,7 +121,7 @@ corner_high b k x h l y t p q r s c d e f =
     let far : (y *ℤ h) ≤ℤ b = subst (λ z. z ≤ℤ b) (*ℤ_comm h y) (between_high b h l y t r s e f) in
     subst (λ z. z ≤ℤ b) (*ℤ_comm y x) (between_high b y k x h p q near far)
 
--- a number above 0 is some natural number, and keeps the order as a factor
+-- a factor above 0 keeps the order
 pub mono_by : (c a b : ℤ) → pos 0 <ℤ c → a ≤ℤ b → (c *ℤ a) ≤ℤ (c *ℤ b)
 mono_by c a b some h = subst (λ z. (z *ℤ a) ≤ℤ (z *ℤ b)) (sym (magnitude_is c some)) (mono_left (unsigned_abs c) a b h)
 
@@ -143,7 +143,8 @@ pub wide_left : (x a b : ℤ) → pos 0 ≤ℤ x → a ≤ℤ b → (x *ℤ a) �
 wide_left (pos x) a b s h = mono_left x a b h
 wide_left (negsuc x) a b s h = absurd (omega (arith, ints))
 
--- m times a number on one side of 0 stays there
+-- for m above 0, what is at least m times a number above 0 is above 0, and what is at most m times
+-- one below 0 is below 0
 pub times_positive : (m : ℕ) (c y : ℤ) → 0 < m → pos 0 <ℤ c → (pos m *ℤ c) ≤ℤ y → pos 0 <ℤ y
 times_positive m (pos c) y some p h =
     let s : 0 < c = omega (arith, ints) in

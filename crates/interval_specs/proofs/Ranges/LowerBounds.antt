@@ -36,7 +36,7 @@ low_magnitude_at_least p q n a some h = magnitude_above (p * n) q a.lo some h.lo
 pub begins_higher : (p q n : ℕ) (a b : Ends) → a.lo ≤ℤ b.lo → AtLeast p q n a → AtLeast p q n b
 begins_higher p q n a b o h = record { low = trans_ℤ (pos (p * n)) (pos q *ℤ a.lo) (pos q *ℤ b.lo) h.low (mono_left q a.lo b.lo o) }
 
--- a natural number by its magnitude
+-- the magnitude of a number above 0 is at most the number
 pub as_magnitude : (x : ℤ) → pos 0 <ℤ x → pos (unsigned_abs x) ≤ℤ x
 as_magnitude (pos x) h = omega (arith, ints)
 as_magnitude (negsuc x) h = absurd (omega (arith, ints))

@@ -12,7 +12,7 @@ use Rattle.interval_specs.proofs.Ranges.Words.{magnitude_by, magnitude_of_up_to,
 
 -- ---- a quotient
 
--- an end of a divisor above 0 is at least as large as the lower end
+-- the upper end of a divisor above 0 has at least the magnitude of its lower end
 pub divisor_magnitude : (b : Ends) → pos 0 <ℤ b.lo → IsOrdered b → unsigned_abs b.lo ≤ unsigned_abs b.hi
 divisor_magnitude b p o = omega (arith, ints)
 

@@ -41,7 +41,7 @@ cbrt_up_to n r k a h u =
       below = as_end (root_above cube (unsigned_abs a.hi * (n * n))) r (cbrt_magnitude n r a.hi (le_trans (mul-le-mul_right (n * n) top) h));
     }
 
--- the lower end of a square root is at least whatever has a small square
+-- the lower end of a square root is at least each k whose square is at most the number under it
 pub sqrt_at_least : (n k : ℕ) (a : Ends) → k * k ≤ unsigned_abs a.lo * n → k ≤ unsigned_abs (sqrt_at n a).lo
 unfolding sqrt_at
 sqrt_at_least n k a h = below_greatest square square_power (unsigned_abs a.lo * n) k h

@@ -70,7 +70,7 @@ magnitudes_rise x y z h = let s = magnitudes_in_order x y 1 z h in omega arith
 pub ordered_roots : (power : ℕ → ℕ) → IsPower power → (x y : ℕ) → x ≤ y → pos (root_below power x) ≤ℤ pos (root_above power y)
 ordered_roots power p x y h = let b = below_le_above power p x y h in omega (arith, ints)
 
--- a root is small where its power would be large
+-- a root rounded up is at most k where the number under it is at most the power of k
 pub sqrt_magnitude : (n k : ℕ) (z : ℤ) → unsigned_abs z * n ≤ k * k → root_above square (unsigned_abs z * n) ≤ k
 sqrt_magnitude n k z h = above_least square square_power (unsigned_abs z * n) k h
 

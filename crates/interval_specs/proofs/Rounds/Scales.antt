@@ -38,7 +38,8 @@ floor_le_ceil z y (suc d) h =
     let o = to_parts z y h in
     cancel_left n f g some (by_parts (pos n *ℤ f) (pos n *ℤ g) (simp parts (omega arith)))
 
--- the same by one divisor at both scales, which may be 0
+-- by one divisor at both scales, 0 included: m times the coarse floor is at most the fine one, and
+-- the fine ceiling at most m times the coarse one
 pub floor_finer : (m n : ℕ) (z z' : ℤ) → (pos m *ℤ z) ≤ℤ z' → (pos m *ℤ floor_over z n) ≤ℤ floor_over z' n
 floor_finer m zero z z' h = floor_over_zero m z z' h
 floor_finer m (suc d) z z' h =

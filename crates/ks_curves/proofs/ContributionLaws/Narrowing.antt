@@ -45,7 +45,7 @@ value_not_negative n dye wave x0 x1 =
     let start = value_narrows n dye wave 0 x0 x0 x0 (omega arith) (omega arith) (omega arith) in
     subst (λ (e : Ends). e.lo ≤ℤ (fraction_of x0 s a).lo) (none_of s a) (inclusion_low (value_over n dye wave 0 x0) (value_over n dye wave x0 x0) start)
 
--- a range from few to many steps encloses both
+-- a contribution is not below 0, and neither of its ends falls where the steps grow
 pub contribution_grows : ContributionGrows
 unfolding value_over
 contribution_grows n dye wave few many le =

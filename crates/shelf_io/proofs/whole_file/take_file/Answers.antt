@@ -5,7 +5,7 @@ use Rattle.shelf_io.proofs.Keeping.{hands_most, hands_then, reads_then}
 use Rattle.shelf_io.proofs.whole_file.take_file.Goals as goal
 use Rattle.shelf_io.proofs.whole_file.take_file.Goals.{then-left, else-left}
 
--- a read asks for one byte more than the limit leaves, or for fewer
+-- after a read of at most one byte more than the limit leaves, at most `limit + 1` bytes are there
 short : (limit read count new : ℕ) → read ≤ limit → count ≤ limit - read + 1 → new ≡ read + count → new ≤ limit + 1
 short limit read count new l h e = omega (arith, l, h, e)
 

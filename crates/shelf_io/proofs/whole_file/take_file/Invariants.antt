@@ -1,4 +1,5 @@
--- The bytes so far are a prefix of the file, as many as were handed out, and no read failed.
+-- The bytes so far are a prefix of the file, and at most `limit + 1`. At most as many were handed
+-- out, the count of failed reads is unchanged, and only reads of the name were made.
 use Rattle.std.proofs.Common.{◌≡◌, ◌≤◌, vec_len, ◌+◌, ◌-◌}
 use Rattle.shelf_io.specs.Changes.{HandsOut, OnlyReads}
 use Rattle.shelf_io.specs.Reading.{IsKnownPrefix}

@@ -8,7 +8,7 @@ use Rattle.fix_bounds.proofs.interval.Iv.add.Given as given
 use Rattle.fix_bounds.proofs.interval.Iv.add.Goals as goal
 use Rattle.fix_bounds.proofs.interval.Iv.add.Goals.{After-hi-2}
 
--- the result is no larger than the two together
+-- the magnitude of the sum is at most 10^25
 small : (g : given.Over) (c : After-hi-2 g) → MagnitudeUpTo (10 ^ 25) (sum_of c.args.self c.args.other)
 small g c =
     magnitude_wider _ (10 ^ 25) (sum_of c.args.self c.args.other) c.requires

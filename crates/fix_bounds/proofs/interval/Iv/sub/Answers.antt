@@ -8,7 +8,7 @@ use Rattle.fix_bounds.proofs.interval.Iv.sub.Given as given
 use Rattle.fix_bounds.proofs.interval.Iv.sub.Goals as goal
 use Rattle.fix_bounds.proofs.interval.Iv.sub.Goals.{After-lo-2}
 
--- the result is no larger than the two together
+-- the magnitude of the difference is at most 10^25
 small : (g : given.Over) (c : After-lo-2 g) → MagnitudeUpTo (10 ^ 25) (difference_of c.args.self c.args.other)
 small g c =
     magnitude_wider _ (10 ^ 25) (difference_of c.args.self c.args.other) c.requires
