@@ -99,17 +99,6 @@ pub matched_shown : (r : ResolvedJob) (claim : Claim) (lent : Option (Bor Shown)
     → option_map (λ m. shown_view m.now) lent ≡ matched_values r claim
 matched_shown r claim lent matched is values = lent_values lent ∙ ap (option_map shown_view) is ∙ values
 
--- the listed recipes fit the job
-pub each_fits : (r : ResolvedJob) (each : List Shown) (recipes : List (ArrayVec ℕ)) → IsLand r → All (λ s. IsRecipe r.grid s.items) recipes → map shown_view each ≡ map (λ s. recipe_values r s.items) recipes → All (λ s. FitsJob r.job (shown_view s)) each
-each_fits r each recipes land all is = λ k d h.
-    let f : ArrayVec ℕ → RecipeValues = λ s. recipe_values r s.items in
-    let none : ArrayVec ℕ = record { items = [] } in
-    let count : length each ≡ length recipes = sym (length-map each shown_view) ∙ ap length is ∙ length-map recipes f in
-    let below_end : k < length recipes = subst (λ n. k < n) count h in
-    let same : f (get_or recipes k none) ≡ shown_view (get_or each k d) =
-    sym (get_or-map f recipes k none (shown_view d) below_end) ∙ ap (λ l. get_or l k (shown_view d)) (sym is) ∙ get_or-map shown_view each k d (shown_view d) h in
-    subst (FitsJob r.job) same (recipe_fits r (get_or recipes k none).items land (all k none below_end))
-
 composed : (r : ResolvedJob) (recipes : List (ArrayVec ℕ)) → map (λ s. recipe_values r s.items) recipes ≡ map (recipe_values r) (map (λ s. s.items) recipes)
 composed r [] = refl
 composed r (s ∷ recipes) = ap (λ rest. recipe_values r s.items ∷ rest) (composed r recipes)

@@ -1,6 +1,6 @@
 //! A job as its file gives it.
 
-ghost use Rattle.std.specs.Prelude.{All, IfSome};
+ghost use Rattle.std.specs.Prelude.{◌≡◌, All, IfSome};
 ghost use Rattle.std.proofs.Props.{props};
 ghost use Rattle.job_file.specs.Batch.{IsBatch};
 ghost use Rattle.job_file.specs.Kept.{AreDyes, AreLights};
@@ -45,6 +45,7 @@ pub struct Job {
     /// The batch that is to be corrected, if there is one.
     pub batch: Option<JobBatch>,
 
+    pub ghost one: { version ≡ 1 } by { Prim.hlevel props },
     pub ghost head: { IsHead (record {
       curves = curves;
       substrate = substrate;

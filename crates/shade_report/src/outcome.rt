@@ -1,6 +1,6 @@
 //! The report of a search.
 
-ghost use Rattle.std.specs.Prelude.{◌≡◌, ◌++◌, All, IfOk, IfSome, OnOk, map, option_map};
+ghost use Rattle.std.specs.Prelude.{◌≡◌, ◌++◌, IfOk, IfSome, OnOk, map, option_map};
 ghost use Rattle.job_file.specs.JobView.{job_view};
 ghost use Rattle.shade_report.specs.Outcomes.{GoesWith, commas_text, found_text, listed_text, outcome_text, undecided_text};
 ghost use Rattle.shade_report.specs.Recipes.{FitsJob, shown_view};
@@ -87,7 +87,6 @@ pub fn outcome_text(
 ) -> Result<Vec<u8>, AllocError>
     requires given { GoesWith claim.now matched }
     requires fits { IfSome matched (λ m. FitsJob (job_view job.now) (shown_view m.now)) }
-    requires fit { All (λ s. FitsJob (job_view job.now) (shown_view s)) undecided.now }
     ensures { IfOk result (λ text. text.items ≡ outcome_text (job_view job.now) claim.now boxes
         (option_map (λ m. shown_view m.now) matched.entry) (map shown_view undecided.now)) }
 {

@@ -6,6 +6,10 @@ use Rattle.std.specs.List.{list_any}
 abbrev pub one_more : ℕ → ℕ
 one_more count = if nat_lt count (2 ^ 64 - 1) then count + 1 else count
 
+-- a count of failures after a call that failed or not
+abbrev pub count_after : Bool → ℕ → ℕ
+count_after fails count = if fails then one_more count else count
+
 -- a count plus `more`, which stays at 2^64 - 1 once it has reached it
 abbrev pub count_more : ℕ → ℕ → ℕ
 count_more more count = min (count + more) (2 ^ 64 - 1)

@@ -1,4 +1,10 @@
-ghost use Rattle.std.specs.Prelude.{◌≡◌, ◌≤◌, length, IfOk};
+ghost use Rattle.std.specs.Prelude.{◌≡◌, ◌≤◌, ℕ, List, None, length, false, IfOk, IsOk, IsSome, IsTrue, is_err};
+ghost use Rattle.std.specs.Option.{ForSome};
+ghost use Rattle.shelf_io.specs.Calls.{count_after};
+ghost use Rattle.shelf_io.specs.Changes.{HandsOut, OnlyReads, OnlyWrites, bytes_given};
+ghost use Rattle.shelf_io.specs.Contents.{Adds, Contents, Creates};
+ghost use Rattle.shelf_io.specs.Counts.{CountsFailure};
+ghost use Rattle.shelf_io.specs.Reading.{Reads};
 ghost use Rattle.shelf_io.specs.View.{unknown_shelf};
 
 use crate::failed::Failed;
@@ -97,7 +103,21 @@ impl<R: Files<File = File> + Drop> Shelf for RealShelf<R> {
         self.read_faults
     }
 
-    fn read_at(&mut self, name: &str, offset: u64, into: &mut [u8]) -> Result<usize, Failed> {
+    fn read_at(&mut self, name: &str, offset: u64, into: &mut [u8]) -> Result<usize, Failed>
+        ensures count { self.new.read_faults ≡ count_after (is_err result) self.old.read_faults }
+
+        ensures most { IfOk result (λ count. count ≤ length into.new) }
+        ensures bytes { Reads None name.now offset result into.new }
+        ensures effect { OnlyReads (λ n. n ≡ name.now)
+            (unknown_shelf self.old.read_faults self.old.write_faults)
+            (unknown_shelf self.new.read_faults self.new.write_faults) }
+        ensures handed { HandsOut name.now (bytes_given result)
+            (unknown_shelf self.old.read_faults self.old.write_faults)
+            (unknown_shelf self.new.read_faults self.new.write_faults) }
+        ensures counted { CountsFailure (is_err result)
+            self.old.read_faults self.new.read_faults }
+        ensures promised { IsTrue false → IsOk result }
+    {
         let done = read(&self.rt, &mut self.reading, name, offset, into);
         count_error(done, &mut self.read_faults)
     }
@@ -106,12 +126,41 @@ impl<R: Files<File = File> + Drop> Shelf for RealShelf<R> {
         self.write_faults
     }
 
-    fn create(&mut self, name: &str) -> Result<(), Failed> {
+    fn create(&mut self, name: &str) -> Result<(), Failed>
+        requires some { 1 ≤ length name.now }
+        requires short { length name.now ≤ 255 }
+
+        ensures count { self.new.write_faults
+            ≡ count_after (is_err result) self.old.write_faults }
+
+        ensures contents { Creates name.now result None None }
+        ensures effect { OnlyWrites name.now 0
+            (unknown_shelf self.old.read_faults self.old.write_faults)
+            (unknown_shelf self.new.read_faults self.new.write_faults) }
+        ensures counted { CountsFailure (is_err result)
+            self.old.write_faults self.new.write_faults }
+        ensures promised { (bytes : ℕ) → IsTrue false → IsOk result }
+    {
         let done = create(&self.rt, &mut self.writing, name);
         count_error(done, &mut self.write_faults)
     }
 
-    fn append(&mut self, name: &str, piece: &[u8]) -> Result<(), Failed> {
+    fn append(&mut self, name: &str, piece: &[u8]) -> Result<(), Failed>
+        requires { ForSome None (λ (c : Contents). IsSome (c.file name.now)) }
+
+        ensures count { self.new.write_faults
+            ≡ count_after (is_err result) self.old.write_faults }
+
+        ensures contents { Adds name.now piece.now result None None }
+        ensures effect { OnlyWrites name.now (length piece.now)
+            (unknown_shelf self.old.read_faults self.old.write_faults)
+            (unknown_shelf self.new.read_faults self.new.write_faults) }
+        ensures counted { CountsFailure (is_err result)
+            self.old.write_faults self.new.write_faults }
+        ensures promised { (more : ℕ) → IsTrue false → IsOk result }
+        ensures kept { (n : List ℕ) (more : ℕ) → IsTrue false
+            → IsTrue false × (self.new.write_faults ≡ self.old.write_faults) }
+    {
         let done = append(&self.rt, &mut self.writing, name, piece);
         count_error(done, &mut self.write_faults)
     }

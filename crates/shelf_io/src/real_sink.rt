@@ -1,5 +1,6 @@
-ghost use Rattle.std.specs.Prelude.{◌≡◌, None, OnOk, false};
+ghost use Rattle.std.specs.Prelude.{◌≡◌, None, OnOk, false, is_err};
 ghost use Rattle.std.specs.Io.KnownBytes.{Appends};
+ghost use Rattle.shelf_io.specs.Calls.{count_after};
 ghost use Rattle.shelf_io.specs.Taking.{Puts};
 ghost use Rattle.shelf_io.specs.View.{unknown_sink};
 
@@ -49,6 +50,7 @@ impl<W: Write + Drop> Sink for RealSink<W> {
             (unknown_sink self.old.faults) (unknown_sink self.new.faults) }
         ensures written { OnOk result
             (Appends (W.contents self.old.writer) (W.contents self.new.writer) piece.now) }
+        ensures count { self.new.faults ≡ count_after (is_err result) self.old.faults }
     {
         count_error(write(&mut self.writer, piece), &mut self.faults)
     }

@@ -1,7 +1,7 @@
-use Rattle.std.proofs.Common.{◌≡◌, All, IfOk, map, ap, sym, subst, ◌∙◌}
+use Rattle.std.proofs.Common.{IfOk, map, ap, subst, ◌∙◌}
 use Rattle.shade_report.specs.Outcomes.{outcome_text}
-use Rattle.shade_report.specs.Recipes.{FitsJob, shown_view}
-use Rattle.dye_run.proofs.SearchFacts.{each_fits, listed_shown, matched_fits, matched_shown, recipes_of_list}
+use Rattle.shade_report.specs.Recipes.{shown_view}
+use Rattle.dye_run.proofs.SearchFacts.{listed_shown, matched_fits, matched_shown, recipes_of_list}
 use Rattle.dye_run.proofs.commands.search.result_text.Goals as goal
 
 pub shown_each-requires : goal.shown_each-requires
@@ -10,13 +10,6 @@ shown_each-requires c = recipes_of_list c.args.land.now.grid c.as_slice.result.n
 pub outcome_text-requires-clause-fits : goal.outcome_text-requires-clause-fits
 outcome_text-requires-clause-fits c =
     rw c.job.ensures.is (matched_fits c.args.land.now c.args.found.now.cert.claim c.as_ref.result c.shown_match-matched.result c.job.ensures.held c.requires.claimed c.as_ref.ensures.value c.shown_match-matched.ensures)
-
-pub outcome_text-requires-clause-fit : goal.outcome_text-requires-clause-fit
-outcome_text-requires-clause-fit c =
-    let recipes = recipes_of_list c.args.land.now.grid c.as_slice.result.now c.args.found.now.cert.undecided c.as_slice.ensures c.requires.listed in
-    let fits = each_fits c.args.land.now c.in_ok-undecided.undecided.items c.as_slice.result.now c.job.ensures.held recipes c.in_ok-undecided.ensures in
-    subst (λ j. All (λ s. FitsJob j (shown_view s)) c.as_slice-2.result.now) (sym c.job.ensures.is)
-    (subst (λ l. All (λ s. FitsJob c.args.land.now.job (shown_view s)) l) (sym c.as_slice-2.ensures.value) fits)
 
 pub returns : goal.returns
 returns c =
