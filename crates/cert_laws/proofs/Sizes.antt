@@ -10,7 +10,7 @@ use Rattle.box_specs.specs.Splits.{cut_of}
 use Rattle.box_specs.specs.Tree.{Tree, count, fork, leaf}
 use Rattle.box_specs.specs.Validity.{after, corners, is_undecided_line}
 use Rattle.box_search.specs.Result.{in_order, put_in}
-use Rattle.box_search.specs.Trees.{IsTree}
+use Rattle.box_search.specs.Trees.{IsSoundTree}
 use Rattle.box_search.proofs.Walks.{is_end, leaf_line, open_line}
 
 -- the most bytes that a line takes with its line feed
@@ -61,7 +61,7 @@ split_sizes dye mid m n xs ys h k =
     record { bytes = omega (arith, h.bytes, k.bytes, b, u); lines = omega (arith, h.lines, k.lines, c); undecided = omega (arith, h.undecided, k.undecided, u) }
 
 module _ (l : Land) where
-  pub tree_sizes : (judged : ℕ → Span → Bool) (t : Tree) (k : ℕ) → IsTree l t → Sizes (lines l judged k t) (count judged k t)
+  pub tree_sizes : (judged : ℕ → Span → Bool) (t : Tree) (k : ℕ) → IsSoundTree l t → Sizes (lines l judged k t) (count judged k t)
   tree_sizes judged (leaf b) k i = go (judged k b) where
     go : (c : Bool) → Sizes ((if c then line_of l b else Dear) ∷ []) (if c then 1 else 0)
     go true = end_sizes (line_of l b) (leaf_line l b i.1)
