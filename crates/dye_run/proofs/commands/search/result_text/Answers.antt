@@ -1,4 +1,4 @@
-use Rattle.std.proofs.Common.{IfOk, map, ap, subst, ◌∙◌}
+use Rattle.std.proofs.Common.{◌≡◌, IfOk, map, ap, subst, ◌∙◌}
 use Rattle.shade_report.specs.Outcomes.{outcome_text}
 use Rattle.shade_report.specs.Recipes.{shown_view}
 use Rattle.dye_run.proofs.SearchFacts.{listed_shown, matched_fits, matched_shown, recipes_of_list}
