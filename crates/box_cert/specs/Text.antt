@@ -96,6 +96,7 @@ abbrev pub count_in : Option (List ℕ × List ℕ) → Option ℕ
 count_in None = None
 count_in (Some r) = if bytes_eq r.0 (codes "undecided") then number_of 0 1000000 r.1 else None
 
+-- the third line
 abbrev pub count_of : List ℕ → Option ℕ
 count_of line = count_in (cut_at 32 line)
 

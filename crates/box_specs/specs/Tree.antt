@@ -24,7 +24,7 @@ spread [] high = 0
 spread (l ∷ low) [] = 0
 spread (l ∷ low) (h ∷ high) = (h - l) + spread low high
 
--- the position of a box in the order in which boxes are judged: by the key of the lower corner, and
+-- the place of a box in the order in which boxes are judged: by the key of the lower corner, and
 -- then by depth
 pub record Spot : Type 0 where
   pub key : KeyView
@@ -54,7 +54,7 @@ module _ (l : Land) where
   abbrev pub spot_of : ℕ → Span → Spot
   spot_of depth b = record { key = key_of l b.lo; depth = depth }
 
-  -- the number of boxes of the tree that come before a position
+  -- the number of boxes of the tree that come before a place
   abbrev pub rank : Spot → ℕ
   rank spot = count (λ depth b. is_lt (spot_cmp (spot_of depth b) spot)) 0 tree_of
 

@@ -27,19 +27,19 @@ tree_failure l claim listed lines =
     (unclaimed_failure l claim (corners is_pass_line (l.top ∷ []) lines)))
 
 -- the result of judging a box is that its one recipe is undecided, or that it passes
-abbrev pub is_undecided_answer : Judged → Bool
-is_undecided_answer (Limit k) = false
-is_undecided_answer (Fail j) = false
-is_undecided_answer StillOpen = false
-is_undecided_answer Pass = false
-is_undecided_answer Undecided = true
+abbrev pub is_judged_undecided : Judged → Bool
+is_judged_undecided (Limit k) = false
+is_judged_undecided (Fail j) = false
+is_judged_undecided StillOpen = false
+is_judged_undecided Pass = false
+is_judged_undecided Undecided = true
 
-abbrev pub is_pass_answer : Judged → Bool
-is_pass_answer (Limit k) = false
-is_pass_answer (Fail j) = false
-is_pass_answer StillOpen = false
-is_pass_answer Pass = true
-is_pass_answer Undecided = false
+abbrev pub is_judged_pass : Judged → Bool
+is_judged_pass (Limit k) = false
+is_judged_pass (Fail j) = false
+is_judged_pass StillOpen = false
+is_judged_pass Pass = true
+is_judged_pass Undecided = false
 
 -- a match fails where no line is a pass line
 abbrev pub unclaimed_by : Claim → List CertLine → Option (ℕ × Why)

@@ -5,7 +5,7 @@ ghost use Rattle.box_specs.specs.declared.certificate.CertLine.TheVariants.{Pass
 ghost use Rattle.box_specs.specs.Span.{IsWithin};
 ghost use Rattle.box_specs.specs.Validity.{is_claimed, is_dear, is_listed, line_fault, splits, unless};
 ghost use Rattle.cert_check.specs.Ready.{IsPart, IsReady, IsSorted};
-ghost use Rattle.cert_check.specs.Result.{is_pass_answer, is_undecided_answer};
+ghost use Rattle.cert_check.specs.Result.{is_judged_pass, is_judged_undecided};
 ghost use Rattle.cert_check.specs.Walk.{AtMostOne};
 
 use crate::grid::{is_before, is_same};
@@ -54,7 +54,7 @@ fn is_claimed(claim: &Claim, steps: &Steps) -> bool
 
 /// Whether a box was judged to be one undecided recipe.
 fn is_undecided(judged: Judged) -> bool
-    ensures { result ≡ is_undecided_answer judged }
+    ensures { result ≡ is_judged_undecided judged }
 {
     match judged {
         Judged::Undecided => true,
@@ -64,7 +64,7 @@ fn is_undecided(judged: Judged) -> bool
 
 /// Whether a box was judged to be one passing recipe.
 fn is_pass(judged: Judged) -> bool
-    ensures { result ≡ is_pass_answer judged }
+    ensures { result ≡ is_judged_pass judged }
 {
     match judged {
         Judged::Pass => true,

@@ -6,12 +6,12 @@ use Rattle.toml.specs.Data.{Data, Members, get_member, no_members}
 use Rattle.job_file.specs.declared.fault.JobFault.{JobFault}
 use Rattle.job_file.specs.declared.fault.JobRule.{JobRule}
 use Rattle.job_file.specs.declared.fault.JobRule.TheVariants.{MissingKey, NotToml, NotVersion1, UnknownKey}
-use Rattle.job_file.specs.declared.fault.Place.{Place}
+use Rattle.job_file.specs.declared.fault.Position.{Position}
 use Rattle.job_file.specs.declared.top.BatchRule.{BatchRule}
 use Rattle.job_file.specs.Arrays.{table_if_any}
 use Rattle.job_file.specs.Dye.{next_dye}
 use Rattle.job_file.specs.Faults.{◌>>=◌, ◌>>◌, ensure, or_fault}
-use Rattle.job_file.specs.Job.{job_at, job_of, job_place, tree_of}
+use Rattle.job_file.specs.Job.{job_at, job_of, job_position, tree_of}
 use Rattle.job_file.specs.KeyRules.{a_table, keys_rules, value_rules}
 use Rattle.job_file.specs.KeyValues.{table_at, tables_at}
 use Rattle.job_file.specs.Keys.{Entries, has_only}
@@ -27,27 +27,27 @@ use Rattle.job_file.proofs.KeysJudged.{file_is, name_is, table_if_any_is, tables
 use Rattle.job_file.proofs.PartsJudged.{batch_if_any, dye_after, light_after, pair_after}
 
 abbrev top_of : Members → Entries
-top_of m = record { place = job_place; members = m }
+top_of m = record { position = job_position; members = m }
 
 -- ---- the keys
 
 -- a value that must be there, and whose value does not matter
-some_value : {A : Type 0} (place : Place) (rule : JobRule) (o : Option A) (rs : List Rule) (next : Result (Unit {0}) JobFault) → next ≡ judge rs tt → (or_fault place rule o >>= (λ _. next)) ≡ judge (rule_at place rule (is_some o) ∷ rs) tt
+some_value : {A : Type 0} (position : Position) (rule : JobRule) (o : Option A) (rs : List Rule) (next : Result (Unit {0}) JobFault) → next ≡ judge rs tt → (or_fault position rule o >>= (λ _. next)) ≡ judge (rule_at position rule (is_some o) ∷ rs) tt
 unfolding judge
-some_value place rule None rs next h = refl
-some_value place rule (Some x) rs next h = h
+some_value position rule None rs next h = refl
+some_value position rule (Some x) rs next h = h
 
 keys_are : (rule : BatchRule) (m : Members)
     → keys rule (top_of m)
-    ≡ judge (rule_at job_place NotVersion1 (is_some (version_of m)) ∷ rule_at job_place UnknownKey (has_only job_keys m) ∷ rule_at job_place UnknownKey (takes_batch rule || not (is_some (get_member (codes "batch") m))) ∷ []) tt
+    ≡ judge (rule_at job_position NotVersion1 (is_some (version_of m)) ∷ rule_at job_position UnknownKey (has_only job_keys m) ∷ rule_at job_position UnknownKey (takes_batch rule || not (is_some (get_member (codes "batch") m))) ∷ []) tt
 unfolding keys
 keys_are rule m =
-    some_value job_place NotVersion1 (version_of m) _ _
-    (then_next _ _ _ _ _ (ensure_is job_place UnknownKey (has_only job_keys m)) (ensure_is job_place UnknownKey (takes_batch rule || not (has_key (codes "batch") (top_of m)))))
+    some_value job_position NotVersion1 (version_of m) _ _
+    (then_next _ _ _ _ _ (ensure_is job_position UnknownKey (has_only job_keys m)) (ensure_is job_position UnknownKey (takes_batch rule || not (has_key (codes "batch") (top_of m)))))
 
 -- ---- the texts and numbers
 
-head_is : (m : Members) → head (top_of m) ≡ judge (keys_rules job_place head_keys m) (head_value m)
+head_is : (m : Members) → head (top_of m) ≡ judge (keys_rules job_position head_keys m) (head_value m)
 unfolding head keys_rules value_rules head_keys head_value
 head_is m =
     let t = top_of m in
@@ -64,14 +64,14 @@ head_is m =
 -- ---- the parts
 
 -- the batch's table, which must be there where it is needed
-batch_found : (needed : Bool) (place : Place) (o : Option Data) (read : Result (Option Members) JobFault) (table : Option Members)
-    → read ≡ judge (value_rules place false a_table o) table
-    → (ensure place MissingKey (not needed || is_some o) >> read) ≡ judge (value_rules place needed a_table o) table
+batch_found : (needed : Bool) (position : Position) (o : Option Data) (read : Result (Option Members) JobFault) (table : Option Members)
+    → read ≡ judge (value_rules position false a_table o) table
+    → (ensure position MissingKey (not needed || is_some o) >> read) ≡ judge (value_rules position needed a_table o) table
 unfolding judge value_rules
-batch_found true place None read table h = refl
-batch_found true place (Some v) read table h = h
-batch_found false place None read table h = h
-batch_found false place (Some v) read table h = h
+batch_found true position None read table h = refl
+batch_found true position (Some v) read table h = h
+batch_found false position None read table h = h
+batch_found false position (Some v) read table h = h
 
 inner_value : Members → Inner
 inner_value m = record { light = tables_at (codes "light") m; dye = tables_at (codes "dye") m; pair = tables_at (codes "pair") m; batch = table_at (codes "batch") m }
@@ -80,7 +80,7 @@ bind_after : {A B : Type 0} (a : Result (Unit {0}) JobFault) (b : Result A JobFa
 bind_after (Ok x) b f = refl
 bind_after (Err fault) b f = refl
 
-inner_is : (rule : BatchRule) (m : Members) → inner rule (top_of m) ≡ judge (keys_rules job_place (part_keys rule) m) (inner_value m)
+inner_is : (rule : BatchRule) (m : Members) → inner rule (top_of m) ≡ judge (keys_rules job_position (part_keys rule) m) (inner_value m)
 unfolding inner keys_rules value_rules part_keys inner_value
 inner_is rule m =
     let t = top_of m in
@@ -88,8 +88,8 @@ inner_is rule m =
     then_read _ _ _ _ _ _ (tables_is (codes "light") 1 2 t)
     (then_read _ _ _ _ _ _ (tables_is (codes "dye") 1 12 t)
     (then_read _ _ _ _ _ _ (tables_or_none_is (codes "pair") 66 t)
-    (bind_after (ensure job_place MissingKey (not (needs_batch rule) || has_key (codes "batch") t)) (table_if_any (codes "batch") t) with_batch
-    ∙ then_read _ _ _ with_batch _ _ (batch_found (needs_batch rule) job_place (get_member (codes "batch") m) (table_if_any (codes "batch") t) (table_at (codes "batch") m) (table_if_any_is (codes "batch") t))
+    (bind_after (ensure job_position MissingKey (not (needs_batch rule) || has_key (codes "batch") t)) (table_if_any (codes "batch") t) with_batch
+    ∙ then_read _ _ _ with_batch _ _ (batch_found (needs_batch rule) job_position (get_member (codes "batch") m) (table_if_any (codes "batch") t) (table_at (codes "batch") m) (table_if_any_is (codes "batch") t))
     (done _))))
 
 -- ---- the whole
@@ -107,7 +107,7 @@ job_is rule m =
     (then_done _ _ _ _ _ (batch_if_any dyes (table_at (codes "batch") m)) refl))))))
 
 document_is : {B : Type 0} (o : Option Members) (f : Members → Result B JobFault) (rules : Members → List Rule) (value : Members → B) → ((m : Members) → f m ≡ judge (rules m) (value m))
-    → (or_fault job_place NotToml o >>= f) ≡ judge (rule_at job_place NotToml (is_some o) ∷ rules (unwrap_or o no_members)) (value (unwrap_or o no_members))
+    → (or_fault job_position NotToml o >>= f) ≡ judge (rule_at job_position NotToml (is_some o) ∷ rules (unwrap_or o no_members)) (value (unwrap_or o no_members))
 unfolding judge
 document_is None f rules value h = refl
 document_is (Some m) f rules value h = h m

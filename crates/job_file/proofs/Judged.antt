@@ -8,7 +8,7 @@ use Rattle.toml.specs.Data.{Data, Members}
 use Rattle.job_file.specs.declared.fault.JobFault.{JobFault}
 use Rattle.job_file.specs.declared.fault.JobRule.{JobRule}
 use Rattle.job_file.specs.declared.fault.JobRule.TheVariants.{BadCount, MissingKey, OutOfRange, WrongKind}
-use Rattle.job_file.specs.declared.fault.Place.{Place}
+use Rattle.job_file.specs.declared.fault.Position.{Position}
 use Rattle.job_file.specs.Arrays.{each}
 use Rattle.job_file.specs.Faults.{◌>>=◌, ◌>>◌, ensure, or_fault}
 use Rattle.job_file.specs.KeyRules.{Kind, in_turn, value_rules}
@@ -49,31 +49,31 @@ as_bind (Err fault) next = refl
 pub then_next : {B : Type 0} (rs ss : List Rule) (a : Result (Unit {0}) JobFault) (next : Result B JobFault) (y : B) → a ≡ judge rs tt → next ≡ judge ss y → (a >> next) ≡ judge (rs ++ ss) y
 then_next rs ss a next y read rest = as_bind a next ∙ then_read rs ss a (λ _. next) tt y read rest
 
-pub ensure_is : (place : Place) (rule : JobRule) (b : Bool) → ensure place rule b ≡ judge (rule_at place rule b ∷ []) tt
+pub ensure_is : (position : Position) (rule : JobRule) (b : Bool) → ensure position rule b ≡ judge (rule_at position rule b ∷ []) tt
 unfolding judge
-ensure_is place rule b = refl
+ensure_is position rule b = refl
 
 -- ---- the value of a key
 
 -- the rules of a value: it is of its type, has an allowed number of items, and is in its range
-abbrev pub kind_rules : Place → Bool → Bool → Bool → List Rule
-kind_rules place typed counted ranged = rule_at place WrongKind typed ∷ rule_at place BadCount counted ∷ rule_at place OutOfRange ranged ∷ []
+abbrev pub kind_rules : Position → Bool → Bool → Bool → List Rule
+kind_rules position typed counted ranged = rule_at position WrongKind typed ∷ rule_at position BadCount counted ∷ rule_at position OutOfRange ranged ∷ []
 
 -- reading a value that must be there judges by the rules of its kind
-pub must_read : {A : Type 0} (place : Place) (kind : Kind) (read : Data → Result A JobFault) (value : Option Data → A)
-    → ((v : Data) → read v ≡ judge (kind_rules place (kind.has_type v) (kind.has_count v) (kind.is_in_range v)) (value (Some v)))
-    → (o : Option Data) → (or_fault place MissingKey o >>= read) ≡ judge (value_rules place true kind o) (value o)
+pub must_read : {A : Type 0} (position : Position) (kind : Kind) (read : Data → Result A JobFault) (value : Option Data → A)
+    → ((v : Data) → read v ≡ judge (kind_rules position (kind.has_type v) (kind.has_count v) (kind.is_in_range v)) (value (Some v)))
+    → (o : Option Data) → (or_fault position MissingKey o >>= read) ≡ judge (value_rules position true kind o) (value o)
 unfolding judge value_rules
-must_read place kind read value h None = refl
-must_read place kind read value h (Some v) = h v
+must_read position kind read value h None = refl
+must_read position kind read value h (Some v) = h v
 
 -- reading a value that may be there judges by the rules of its kind where it is there
-pub may_read : {A : Type 0} (place : Place) (kind : Kind) (read : Data → Result A JobFault) (value : Option Data → A)
-    → ((v : Data) → read v ≡ judge (kind_rules place (kind.has_type v) (kind.has_count v) (kind.is_in_range v)) (value (Some v)))
-    → (o : Option Data) → or_else (value None) read o ≡ judge (value_rules place false kind o) (value o)
+pub may_read : {A : Type 0} (position : Position) (kind : Kind) (read : Data → Result A JobFault) (value : Option Data → A)
+    → ((v : Data) → read v ≡ judge (kind_rules position (kind.has_type v) (kind.has_count v) (kind.is_in_range v)) (value (Some v)))
+    → (o : Option Data) → or_else (value None) read o ≡ judge (value_rules position false kind o) (value o)
 unfolding judge value_rules
-may_read place kind read value h None = refl
-may_read place kind read value h (Some v) = h v
+may_read position kind read value h None = refl
+may_read position kind read value h (Some v) = h v
 
 -- ---- the items of a list
 

@@ -5,9 +5,9 @@ use Rattle.std.proofs.lemmas.List.{length-map}
 use Rattle.toml.specs.Data.{Members}
 use Rattle.job_file.specs.declared.dye.JobDye.{JobDye}
 use Rattle.job_file.specs.declared.fault.JobRule.TheVariants.{BatchLength, DoubleDye, OutOfRange, SamePair, TooWide, UnknownDye, UnknownKey}
-use Rattle.job_file.specs.declared.fault.Place.{Place}
+use Rattle.job_file.specs.declared.fault.Position.{Position}
 use Rattle.job_file.specs.Arrays.{if_there}
-use Rattle.job_file.specs.Batch.{batch, batch_of, batch_place}
+use Rattle.job_file.specs.Batch.{batch, batch_of, batch_position}
 use Rattle.job_file.specs.Dye.{dye, next_dye}
 use Rattle.job_file.specs.Dyeing.{dyeing, next_dyeing}
 use Rattle.job_file.specs.KeyRules.{if_any, in_turn, keys_rules, table_rules, value_rules}
@@ -15,18 +15,18 @@ use Rattle.job_file.specs.KeyValues.{tables_at}
 use Rattle.job_file.specs.Keys.{Entries}
 use Rattle.job_file.specs.Light.{light, next_light}
 use Rattle.job_file.specs.Pair.{next_pair, pair}
-use Rattle.job_file.specs.PartRules.{batch_keys, batch_rules, batch_value, dye_closing, dye_keys, dye_place, dye_rules, dye_value, dyeing_keys, dyeing_place, dyeing_rules, dyeing_value, light_keys, light_place, light_rules, light_value, pair_closing, pair_keys, pair_place, pair_rules, pair_value}
+use Rattle.job_file.specs.PartRules.{batch_keys, batch_rules, batch_value, dye_closing, dye_keys, dye_position, dye_rules, dye_value, dyeing_keys, dyeing_position, dyeing_rules, dyeing_value, light_keys, light_position, light_rules, light_value, pair_closing, pair_keys, pair_position, pair_rules, pair_value}
 use Rattle.job_file.proofs.Judged.{done, each_read, ensure_is, judge, then_done, then_next, then_read}
 use Rattle.job_file.proofs.KeysJudged.{file_is, name_is, steps_are, tables_is, whole_is, whole_or_is}
 
-abbrev at : Place → Members → Entries
-at place m = record { place = place; members = m }
+abbrev at : Position → Members → Entries
+at position m = record { position = position; members = m }
 
-light_at : (place : Place) (m : Members) → light (at place m) ≡ judge (table_rules place light_keys m) (light_value m)
+light_at : (position : Position) (m : Members) → light (at position m) ≡ judge (table_rules position light_keys m) (light_value m)
 unfolding light table_rules keys_rules light_keys light_value
-light_at place m =
-    let t = at place m in
-    then_next _ _ _ _ _ (ensure_is place UnknownKey _)
+light_at position m =
+    let t = at position m in
+    then_next _ _ _ _ _ (ensure_is position UnknownKey _)
     (then_read _ _ _ _ _ _ (file_is (codes "weights") t)
     (then_read _ _ _ _ _ _ (whole_is (codes "tolerance") 0 100000 t)
     (then_read _ _ _ _ _ _ (whole_or_is (codes "l10") 1 100 20 t)
@@ -36,29 +36,29 @@ light_at place m =
 -- the next light, after those in `before`
 pub light_after : (before : List Members) (m : Members) → next_light (map light_value before) m ≡ judge (light_rules before m) (light_value m)
 unfolding light_rules
-light_after before m = rw length-map (light_at (light_place (length before + 1)) m)
+light_after before m = rw length-map (light_at (light_position (length before + 1)) m)
 
-dyeing_at : (place : Place) (m : Members) → dyeing (at place m) ≡ judge (table_rules place dyeing_keys m) (dyeing_value m)
+dyeing_at : (position : Position) (m : Members) → dyeing (at position m) ≡ judge (table_rules position dyeing_keys m) (dyeing_value m)
 unfolding dyeing table_rules keys_rules dyeing_keys dyeing_value
-dyeing_at place m =
-    let t = at place m in
-    then_next _ _ _ _ _ (ensure_is place UnknownKey _)
+dyeing_at position m =
+    let t = at position m in
+    then_next _ _ _ _ _ (ensure_is position UnknownKey _)
     (then_read _ _ _ _ _ _ (whole_is (codes "units") 1 20000 t)
     (then_read _ _ _ _ _ _ (name_is (codes "curve") t)
     (done _)))
 
 dyeing_after : (number : ℕ) (before : List Members) (m : Members) → next_dyeing number (map dyeing_value before) m ≡ judge (dyeing_rules number before m) (dyeing_value m)
 unfolding dyeing_rules
-dyeing_after number before m = rw length-map (dyeing_at (dyeing_place number (length before + 1)) m)
+dyeing_after number before m = rw length-map (dyeing_at (dyeing_position number (length before + 1)) m)
 
 dye_at : (before : List JobDye) (number : ℕ) (m : Members)
-    → dye before (at (dye_place number) m)
-    ≡ judge (table_rules (dye_place number) dye_keys m ++ in_turn (dyeing_rules number) [] (tables_at (codes "dyeing") m) ++ dye_closing (dye_place number) before (dye_value m)) (dye_value m)
+    → dye before (at (dye_position number) m)
+    ≡ judge (table_rules (dye_position number) dye_keys m ++ in_turn (dyeing_rules number) [] (tables_at (codes "dyeing") m) ++ dye_closing (dye_position number) before (dye_value m)) (dye_value m)
 unfolding dye table_rules keys_rules value_rules dye_keys dye_value
 dye_at before number m =
-    let place = dye_place number in
-    let t = at place m in
-    then_next _ _ _ _ _ (ensure_is place UnknownKey _)
+    let position = dye_position number in
+    let t = at position m in
+    then_next _ _ _ _ _ (ensure_is position UnknownKey _)
     (then_read _ _ _ _ _ _ (name_is (codes "name") t)
     (then_read _ _ _ _ _ _ (whole_is (codes "price") 0 1000000 t)
     (then_read _ _ _ _ _ _ (whole_or_is (codes "fee") 0 1000000000000 0 t)
@@ -67,9 +67,9 @@ dye_at before number m =
     (then_read _ _ _ _ _ _ (whole_is (codes "most") 1 4000 t)
     (then_read _ _ _ _ _ _ (tables_is (codes "dyeing") 1 8 t)
     (then_read _ _ _ _ _ _ (each_read (next_dyeing number) (dyeing_rules number) dyeing_value (dyeing_after number) [] (tables_at (codes "dyeing") m))
-    (then_next _ _ _ _ _ (ensure_is place OutOfRange _)
-    (then_next _ _ _ _ _ (ensure_is place TooWide _)
-    (then_next _ _ _ _ _ (ensure_is place DoubleDye _)
+    (then_next _ _ _ _ _ (ensure_is position OutOfRange _)
+    (then_next _ _ _ _ _ (ensure_is position TooWide _)
+    (then_next _ _ _ _ _ (ensure_is position DoubleDye _)
     (done _))))))))))))
 
 pub dye_after : (before : List Members) (m : Members) → next_dye (map dye_value before) m ≡ judge (dye_rules before m) (dye_value m)
@@ -77,16 +77,16 @@ unfolding dye_rules
 dye_after before m = rw length-map (dye_at (map dye_value before) (length before + 1) m)
 
 pair_at : (dyes : List JobDye) (number : ℕ) (m : Members)
-    → pair dyes (at (pair_place number) m) ≡ judge (table_rules (pair_place number) pair_keys m ++ pair_closing (pair_place number) dyes (pair_value m)) (pair_value m)
+    → pair dyes (at (pair_position number) m) ≡ judge (table_rules (pair_position number) pair_keys m ++ pair_closing (pair_position number) dyes (pair_value m)) (pair_value m)
 unfolding pair table_rules keys_rules value_rules pair_keys pair_value
 pair_at dyes number m =
-    let place = pair_place number in
-    let t = at place m in
-    then_next _ _ _ _ _ (ensure_is place UnknownKey _)
+    let position = pair_position number in
+    let t = at position m in
+    then_next _ _ _ _ _ (ensure_is position UnknownKey _)
     (then_read _ _ _ _ _ _ (name_is (codes "a") t)
     (then_read _ _ _ _ _ _ (name_is (codes "b") t)
-    (then_next _ _ _ _ _ (ensure_is place UnknownDye _)
-    (then_next _ _ _ _ _ (ensure_is place SamePair _)
+    (then_next _ _ _ _ _ (ensure_is position UnknownDye _)
+    (then_next _ _ _ _ _ (ensure_is position SamePair _)
     (done _)))))
 
 pub pair_after : (dyes : List JobDye) (before : List Members) (m : Members) → next_pair dyes (map pair_value before) m ≡ judge (pair_rules dyes before m) (pair_value m)
@@ -96,12 +96,12 @@ pair_after dyes before m = rw length-map (pair_at dyes (length before + 1) m)
 batch_is : (dyes : List JobDye) (m : Members) → batch_of dyes m ≡ judge (batch_rules dyes m) (batch_value m)
 unfolding batch batch_rules table_rules keys_rules value_rules batch_keys batch_value
 batch_is dyes m =
-    let t = at batch_place m in
-    then_next _ _ _ _ _ (ensure_is batch_place UnknownKey _)
+    let t = at batch_position m in
+    then_next _ _ _ _ _ (ensure_is batch_position UnknownKey _)
     (then_read _ _ _ _ _ _ (name_is (codes "curve") t)
     (then_read _ _ _ _ _ _ (steps_are (codes "steps") t)
-    (then_next _ _ _ _ _ (ensure_is batch_place BatchLength _)
-    (then_next _ _ _ _ _ (ensure_is batch_place OutOfRange _)
+    (then_next _ _ _ _ _ (ensure_is batch_position BatchLength _)
+    (then_next _ _ _ _ _ (ensure_is batch_position OutOfRange _)
     (done _)))))
 
 pub batch_if_any : (dyes : List JobDye) (o : Option Members) → if_there (batch_of dyes) o ≡ judge (if_any (batch_rules dyes) o) (option_map batch_value o)

@@ -8,7 +8,7 @@ use Rattle.std.proofs.lemmas.Slice.Eq.{bytes_eq-Decides}
 use Rattle.spectral_tables.specs.WeightTable.{WeightTable}
 use Rattle.job_file.specs.declared.batch.JobBatch.{JobBatch}
 use Rattle.job_file.specs.declared.fault.JobRule.{JobRule}
-use Rattle.job_file.specs.declared.fault.Place.{Place}
+use Rattle.job_file.specs.declared.fault.Position.{Position}
 use Rattle.job_file.specs.Job.{Values}
 use Rattle.job_file.specs.ResolvedKept.{IsResolved}
 use Rattle.std.specs.Str.{bytes_eq}
@@ -189,9 +189,9 @@ batch_waves substrate None count e h = h
 batch_waves substrate (Some c) count e h = h ∙ sym e
 
 -- a rule that holds where a test fails
-pub held_where_not : (place : Place) (rule : JobRule) (b : Bool) (x : Unit {0}) → ensure place rule (not b) ≡ Ok x → b ≡ false
-held_where_not place rule true x e = cc
-held_where_not place rule false x e = refl
+pub held_where_not : (position : Position) (rule : JobRule) (b : Bool) (x : Unit {0}) → ensure position rule (not b) ≡ Ok x → b ≡ false
+held_where_not position rule true x e = cc
+held_where_not position rule false x e = refl
 
 pub kept_of : (j : Values) (substrate standard : List ℕ) (dyes : List DyeData) (grid : List DyeCost) (limits : LimitsView) (weights : List WeightTable) (batch : Option (List ℕ)) (count : ℕ)
     → AllZip (IsCalibrated substrate) dyes j.dye → grid ≡ map cost_of_dye j.dye → limits ≡ limits_of j → length weights ≡ length j.light → All (IsPair j.dye) j.pair → IfSome j.batch (IsBatch j.dye)

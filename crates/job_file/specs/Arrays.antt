@@ -3,7 +3,7 @@ use Rattle.std.specs.Prelude.{◌++◌, ◌&&◌, ℕ, ℤ, nat_le, Option, Some
 use Rattle.toml.specs.Data.{Data, Items, Members, no_items, item, get_member, as_array, as_table}
 use Rattle.job_file.specs.declared.fault.JobFault.{JobFault}
 use Rattle.job_file.specs.declared.fault.JobRule.TheVariants.{BadCount, WrongKind}
-use Rattle.job_file.specs.declared.fault.Place.{Place}
+use Rattle.job_file.specs.declared.fault.Position.{Position}
 use Rattle.job_file.specs.Faults.{◌>>=◌, ◌>>◌, ensure, or_fault}
 use Rattle.job_file.specs.Keys.{Entries, natural_in, or_else, required}
 
@@ -14,27 +14,27 @@ all_after kind before no_items = Some before
 all_after kind before (item value rest) = option_and_then (λ x. all_after kind (before ++ x ∷ []) rest) (kind value)
 
 -- an array of items of a kind, whose number is in a range
-abbrev pub array_in : {A : Type 0} → (Data → Option A) → ℕ → ℕ → Place → Data → Result (List A) JobFault
-array_in kind low high place value = do
-  items ← or_fault place WrongKind (as_array value)
-  xs ← or_fault place WrongKind (all_after kind [] items)
-  ensure place BadCount (nat_le low (length xs) && nat_le (length xs) high)
+abbrev pub array_in : {A : Type 0} → (Data → Option A) → ℕ → ℕ → Position → Data → Result (List A) JobFault
+array_in kind low high position value = do
+  items ← or_fault position WrongKind (as_array value)
+  xs ← or_fault position WrongKind (all_after kind [] items)
+  ensure position BadCount (nat_le low (length xs) && nat_le (length xs) high)
   Ok xs
 
 -- the tables of a required key
 unfoldable pub tables : List ℕ → ℕ → ℕ → Entries → Result (List Members) JobFault
 tables key low high t = do
   value ← required key t
-  array_in as_table low high t.place value
+  array_in as_table low high t.position value
 
 -- the tables of a key, and none where the key is absent
 unfoldable pub tables_or_none : List ℕ → ℕ → Entries → Result (List Members) JobFault
-tables_or_none key high t = or_else [] (array_in as_table 0 high t.place) (get_member key t.members)
+tables_or_none key high t = or_else [] (array_in as_table 0 high t.position) (get_member key t.members)
 
 -- the table of a key that may be absent
 unfoldable pub table_if_any : List ℕ → Entries → Result (Option Members) JobFault
 table_if_any key t = or_else None (λ value. do
-  members ← or_fault t.place WrongKind (as_table value)
+  members ← or_fault t.position WrongKind (as_table value)
   Ok (Some members)) (get_member key t.members)
 
 -- the numbers read so far, followed by the rest, and None where one of the rest is not in the range

@@ -5,7 +5,7 @@ use Rattle.toml.specs.Data.{Members, as_integer}
 use Rattle.job_file.specs.declared.fault.JobFault.{JobFault}
 use Rattle.job_file.specs.declared.fault.JobRule.TheVariants.{BatchLength, OutOfRange}
 use Rattle.job_file.specs.declared.fault.Part.TheVariants.{Batch}
-use Rattle.job_file.specs.declared.fault.Place.{Place}
+use Rattle.job_file.specs.declared.fault.Position.{Position}
 use Rattle.job_file.specs.declared.batch.JobBatch.{JobBatch}
 use Rattle.job_file.specs.declared.dye.JobDye.{JobDye}
 use Rattle.job_file.specs.Arrays.{array_in, naturals_after}
@@ -23,8 +23,8 @@ are_within (d ∷ dyes) (n ∷ steps) = nat_le n d.most && are_within dyes steps
 unfoldable pub numbers_of_steps : List ℕ → Entries → Result (List ℕ) JobFault
 numbers_of_steps key t = do
   value ← required key t
-  numbers ← array_in as_integer 1 12 t.place value
-  or_fault t.place OutOfRange (naturals_after 0 4000 [] numbers)
+  numbers ← array_in as_integer 1 12 t.position value
+  or_fault t.position OutOfRange (naturals_after 0 4000 [] numbers)
 
 -- its keys: the name of its curve, and the steps of each dye that are in the bath
 unfoldable pub batch : List JobDye → Entries → Result JobBatch JobFault
@@ -32,15 +32,15 @@ batch dyes t = do
   only_keys (codes "curve" ∷ codes "steps" ∷ []) t
   curve ← name (codes "curve") t
   steps ← numbers_of_steps (codes "steps") t
-  ensure t.place BatchLength (length steps == length dyes)
-  ensure t.place OutOfRange (are_within dyes steps)
+  ensure t.position BatchLength (length steps == length dyes)
+  ensure t.position OutOfRange (are_within dyes steps)
   Ok (record { curve = curve; steps = record { items = steps } })
 
-abbrev pub batch_place : Place
-batch_place = record { part = Batch; item = 0; sub = 0 }
+abbrev pub batch_position : Position
+batch_position = record { part = Batch; item = 0; sub = 0 }
 
 abbrev pub batch_of : List JobDye → Members → Result JobBatch JobFault
-batch_of dyes members = batch dyes (record { place = batch_place; members = members })
+batch_of dyes members = batch dyes (record { position = batch_position; members = members })
 
 -- what a batch holds: a curve's name, and for each dye a number of steps up to its `most`
 pub record IsBatch (dyes : List JobDye) (b : JobBatch) : Type 0 where

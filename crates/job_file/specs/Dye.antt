@@ -30,15 +30,15 @@ dye before t = do
   least ← whole_or (codes "least") 1 4000 1 t
   most ← whole (codes "most") 1 4000 t
   members ← tables (codes "dyeing") 1 8 t
-  dyeings ← each (next_dyeing t.place.item) [] members
-  ensure t.place OutOfRange (nat_le least most)
-  ensure t.place TooWide (nat_le (step * most) 20000)
-  ensure t.place DoubleDye (not (has_dye before text))
+  dyeings ← each (next_dyeing t.position.item) [] members
+  ensure t.position OutOfRange (nat_le least most)
+  ensure t.position TooWide (nat_le (step * most) 20000)
+  ensure t.position DoubleDye (not (has_dye before text))
   Ok (record { name = text; price = price; fee = fee; step = step; least = least; most = most; dyeing = record { items = dyeings } })
 
 -- the next dye, after those in `before`
 abbrev pub next_dye : List JobDye → Members → Result JobDye JobFault
-next_dye before members = dye before (record { place = record { part = Dye; item = length before + 1; sub = 0 }; members = members })
+next_dye before members = dye before (record { position = record { part = Dye; item = length before + 1; sub = 0 }; members = members })
 
 -- the ranges of a dye
 pub record IsDye (d : JobDye) : Type 0 where

@@ -18,7 +18,7 @@ dyeing t = do
 
 -- the next dyeing of the dye with this number, after those in `before`
 abbrev pub next_dyeing : ℕ → List JobDyeing → Members → Result JobDyeing JobFault
-next_dyeing dye before members = dyeing (record { place = record { part = Dyeing; item = dye; sub = length before + 1 }; members = members })
+next_dyeing dye before members = dyeing (record { position = record { part = Dyeing; item = dye; sub = length before + 1 }; members = members })
 
 -- the ranges of a dyeing
 pub record IsDyeing (d : JobDyeing) : Type 0 where

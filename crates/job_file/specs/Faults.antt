@@ -4,7 +4,7 @@ use Rattle.job_file.specs.declared.fault.JobError.{JobError}
 use Rattle.job_file.specs.declared.fault.JobError.TheVariants as errors
 use Rattle.job_file.specs.declared.fault.JobFault.{JobFault}
 use Rattle.job_file.specs.declared.fault.JobRule.{JobRule}
-use Rattle.job_file.specs.declared.fault.Place.{Place}
+use Rattle.job_file.specs.declared.fault.Position.{Position}
 
 infixl 10 ◌>>=◌
 abbrev pub ◌>>=◌ : {A B : Type 0} → Result A JobFault → (A → Result B JobFault) → Result B JobFault
@@ -16,18 +16,18 @@ abbrev pub ◌>>◌ : {B : Type 0} → Result (Unit {0}) JobFault → Result B J
 (Ok x) >> next = next
 (Err fault) >> next = Err fault
 
--- the fault of a rule that is broken at a place
-abbrev pub fault_at : Place → JobRule → JobFault
-fault_at place rule = record { part = place.part; item = place.item; sub = place.sub; rule = rule }
+-- the fault of a rule that is broken at a position
+abbrev pub fault_at : Position → JobRule → JobFault
+fault_at position rule = record { part = position.part; item = position.item; sub = position.sub; rule = rule }
 
 -- the value, or the fault of a rule where there is none
-abbrev pub or_fault : {A : Type 0} → Place → JobRule → Option A → Result A JobFault
-or_fault place rule None = Err (fault_at place rule)
-or_fault place rule (Some x) = Ok x
+abbrev pub or_fault : {A : Type 0} → Position → JobRule → Option A → Result A JobFault
+or_fault position rule None = Err (fault_at position rule)
+or_fault position rule (Some x) = Ok x
 
 -- a check of a rule: its fault where it does not hold
-abbrev pub ensure : Place → JobRule → Bool → Result (Unit {0}) JobFault
-ensure place rule holds = if holds then Ok tt else Err (fault_at place rule)
+abbrev pub ensure : Position → JobRule → Bool → Result (Unit {0}) JobFault
+ensure position rule holds = if holds then Ok tt else Err (fault_at position rule)
 
 -- a call that failed agrees with what the definition reads: the same fault, or memory ran out
 abbrev pub Fails : {Y : Type 0} → JobError → Result Y JobFault → Type 0

@@ -8,7 +8,7 @@ use Rattle.job_file.specs.declared.dye.JobDye.{JobDye}
 use Rattle.job_file.specs.declared.fault.JobFault.{JobFault}
 use Rattle.job_file.specs.declared.fault.JobRule.TheVariants.{NotToml}
 use Rattle.job_file.specs.declared.fault.Part.TheVariants.{Job}
-use Rattle.job_file.specs.declared.fault.Place.{Place}
+use Rattle.job_file.specs.declared.fault.Position.{Position}
 use Rattle.job_file.specs.declared.light.JobLight.{JobLight}
 use Rattle.job_file.specs.declared.pair.JobPair.{JobPair}
 use Rattle.job_file.specs.declared.top.BatchRule.{BatchRule}
@@ -30,8 +30,8 @@ pub record Values : Type 0 where
   pub pair : List JobPair
   pub batch : Option JobBatch
 
-abbrev pub job_place : Place
-job_place = record { part = Job; item = 0; sub = 0 }
+abbrev pub job_position : Position
+job_position = record { part = Job; item = 0; sub = 0 }
 
 -- the table of the whole job first, then its lights, its dyes with their dyeings, its pairs and its
 -- batch
@@ -53,5 +53,5 @@ tree_of text = if is_utf8 text then parse_document text else None
 -- the job that a text spells, or its first fault
 unfoldable pub job_of : BatchRule → List ℕ → Result Values JobFault
 job_of rule text = do
-  members ← or_fault job_place NotToml (tree_of text)
-  job_at rule (record { place = job_place; members = members })
+  members ← or_fault job_position NotToml (tree_of text)
+  job_at rule (record { position = job_position; members = members })

@@ -4,7 +4,7 @@ use Rattle.toml.specs.Data.{Members, get_member}
 use Rattle.job_file.specs.declared.fault.JobRule.TheVariants.{NotVersion1, UnknownKey}
 use Rattle.job_file.specs.declared.top.BatchRule.{BatchRule}
 use Rattle.job_file.specs.declared.top.Head.{Head}
-use Rattle.job_file.specs.Job.{Values, job_place}
+use Rattle.job_file.specs.Job.{Values, job_position}
 use Rattle.job_file.specs.KeyRules.{Key, a_file, a_name, a_table, a_whole, if_any, in_turn, keys_rules, may, must, some_tables}
 use Rattle.job_file.specs.KeyValues.{table_at, tables_at, text_at, whole_at, whole_if_any_at}
 use Rattle.job_file.specs.Keys.{has_only}
@@ -66,10 +66,10 @@ top_keys rule = head_keys ++ part_keys rule
 -- batch); then the rules of each key
 abbrev pub top_rules : BatchRule → Members → List Rule
 top_rules rule members =
-    rule_at job_place NotVersion1 (is_some (version_of members))
-    ∷ rule_at job_place UnknownKey (has_only (codes "version" ∷ map (λ k. k.name) (top_keys rule)) members)
-    ∷ rule_at job_place UnknownKey (takes_batch rule || not (is_some (get_member (codes "batch") members)))
-    ∷ keys_rules job_place (top_keys rule) members
+    rule_at job_position NotVersion1 (is_some (version_of members))
+    ∷ rule_at job_position UnknownKey (has_only (codes "version" ∷ map (λ k. k.name) (top_keys rule)) members)
+    ∷ rule_at job_position UnknownKey (takes_batch rule || not (is_some (get_member (codes "batch") members)))
+    ∷ keys_rules job_position (top_keys rule) members
 
 -- the rules of a job: those of its table, of its lights, of its dyes, of its pairs and of its batch
 unfoldable pub job_rules : BatchRule → Members → List Rule

@@ -4,7 +4,7 @@ use Rattle.std.specs.List.{list_all}
 use Rattle.spectral_tables.specs.Name.{is_name}
 use Rattle.toml.specs.Data.{Data, Members, as_array, as_integer, as_str, as_table, get_member}
 use Rattle.job_file.specs.declared.fault.JobRule.TheVariants.{BadCount, MissingKey, OutOfRange, UnknownKey, WrongKind}
-use Rattle.job_file.specs.declared.fault.Place.{Place}
+use Rattle.job_file.specs.declared.fault.Position.{Position}
 use Rattle.job_file.specs.Arrays.{all_after}
 use Rattle.job_file.specs.Keys.{has_only, natural_in}
 use Rattle.job_file.specs.Rules.{Rule, rule_at}
@@ -77,22 +77,22 @@ abbrev pub may : List ℕ → Kind → Key
 may name kind = record { name = name; needed = false; kind = kind }
 
 -- the rules of the value of a key, which may be absent
-unfoldable pub value_rules : Place → Bool → Kind → Option Data → List Rule
-value_rules place needed kind value =
-    rule_at place MissingKey (not needed || is_some value)
-    ∷ rule_at place WrongKind (passes kind.has_type value)
-    ∷ rule_at place BadCount (passes kind.has_count value)
-    ∷ rule_at place OutOfRange (passes kind.is_in_range value)
+unfoldable pub value_rules : Position → Bool → Kind → Option Data → List Rule
+value_rules position needed kind value =
+    rule_at position MissingKey (not needed || is_some value)
+    ∷ rule_at position WrongKind (passes kind.has_type value)
+    ∷ rule_at position BadCount (passes kind.has_count value)
+    ∷ rule_at position OutOfRange (passes kind.is_in_range value)
     ∷ []
 
 -- the rules of the keys in order
-unfoldable pub keys_rules : Place → List Key → Members → List Rule
-keys_rules place [] m = []
-keys_rules place (k ∷ keys) m = value_rules place k.needed k.kind (get_member k.name m) ++ keys_rules place keys m
+unfoldable pub keys_rules : Position → List Key → Members → List Rule
+keys_rules position [] m = []
+keys_rules position (k ∷ keys) m = value_rules position k.needed k.kind (get_member k.name m) ++ keys_rules position keys m
 
 -- the rules of a table: it has no other keys, and then those of its keys
-unfoldable pub table_rules : Place → List Key → Members → List Rule
-table_rules place keys members = rule_at place UnknownKey (has_only (map (λ k. k.name) keys) members) ∷ keys_rules place keys members
+unfoldable pub table_rules : Position → List Key → Members → List Rule
+table_rules position keys members = rule_at position UnknownKey (has_only (map (λ k. k.name) keys) members) ∷ keys_rules position keys members
 
 -- the rules of tables in order. Those of each may depend on the tables before it
 abbrev pub in_turn : (List Members → Members → List Rule) → List Members → List Members → List Rule

@@ -5,7 +5,7 @@ use Rattle.toml.specs.Data.{Members, no_members}
 use Rattle.job_file.specs.declared.fault.JobFault.{JobFault}
 use Rattle.job_file.specs.declared.fault.JobRule.TheVariants.{NotToml}
 use Rattle.job_file.specs.declared.top.BatchRule.{BatchRule}
-use Rattle.job_file.specs.Job.{Values, job_of, job_place, tree_of}
+use Rattle.job_file.specs.Job.{Values, job_of, job_position, tree_of}
 use Rattle.job_file.specs.JobRules.{job_rules, job_value}
 use Rattle.job_file.specs.Rules.{AllHold, IsFirstBroken, Rule, rule_at}
 
@@ -15,7 +15,7 @@ table_of text = unwrap_or (tree_of text) no_members
 
 -- the rules of the job that a text spells: the text is TOML, and then those of its table
 unfoldable pub rules_of : BatchRule → List ℕ → List Rule
-rules_of rule text = rule_at job_place NotToml (is_some (tree_of text)) ∷ job_rules rule (table_of text)
+rules_of rule text = rule_at job_position NotToml (is_some (tree_of text)) ∷ job_rules rule (table_of text)
 
 -- the values of the keys of the job that a text spells
 unfoldable pub values_of : List ℕ → Values

@@ -21,7 +21,7 @@ light t = do
 
 -- the next light, after those in `before`
 abbrev pub next_light : List JobLight → Members → Result JobLight JobFault
-next_light before members = light (record { place = record { part = Light; item = length before + 1; sub = 0 }; members = members })
+next_light before members = light (record { position = record { part = Light; item = length before + 1; sub = 0 }; members = members })
 
 -- the ranges of a light
 pub record IsLight (l : JobLight) : Type 0 where

@@ -17,13 +17,13 @@ pair dyes t = do
   only_keys (codes "a" ∷ codes "b" ∷ []) t
   a ← name (codes "a") t
   b ← name (codes "b") t
-  ensure t.place UnknownDye (has_dye dyes a && has_dye dyes b)
-  ensure t.place SamePair (not (bytes_eq a b))
+  ensure t.position UnknownDye (has_dye dyes a && has_dye dyes b)
+  ensure t.position SamePair (not (bytes_eq a b))
   Ok (record { a = a; b = b })
 
 -- the next pair, after those in `before`
 abbrev pub next_pair : List JobDye → List JobPair → Members → Result JobPair JobFault
-next_pair dyes before members = pair dyes (record { place = record { part = Pair; item = length before + 1; sub = 0 }; members = members })
+next_pair dyes before members = pair dyes (record { position = record { part = Pair; item = length before + 1; sub = 0 }; members = members })
 
 -- a pair names two different dyes of the job
 pub record IsPair (dyes : List JobDye) (p : JobPair) : Type 0 where

@@ -7,10 +7,10 @@ use Rattle.job_file.specs.declared.dye.JobDye.{JobDye}
 use Rattle.job_file.specs.declared.dyeing.JobDyeing.{JobDyeing}
 use Rattle.job_file.specs.declared.fault.JobRule.TheVariants.{BatchLength, DoubleDye, OutOfRange, SamePair, TooWide, UnknownDye}
 use Rattle.job_file.specs.declared.fault.Part.TheVariants.{Dye, Dyeing, Light, Pair}
-use Rattle.job_file.specs.declared.fault.Place.{Place}
+use Rattle.job_file.specs.declared.fault.Position.{Position}
 use Rattle.job_file.specs.declared.light.JobLight.{JobLight}
 use Rattle.job_file.specs.declared.pair.JobPair.{JobPair}
-use Rattle.job_file.specs.Batch.{are_within, batch_place}
+use Rattle.job_file.specs.Batch.{are_within, batch_position}
 use Rattle.job_file.specs.Dye.{has_dye}
 use Rattle.job_file.specs.KeyRules.{Key, a_file, a_name, a_whole, in_turn, may, must, some_tables, some_wholes, table_rules}
 use Rattle.job_file.specs.KeyValues.{tables_at, text_at, whole_at, wholes_at}
@@ -35,12 +35,12 @@ light_value members = record {
   c10 = whole_at (codes "c10") 10 members;
 }
 
-abbrev pub light_place : ℕ → Place
-light_place number = record { part = Light; item = number; sub = 0 }
+abbrev pub light_position : ℕ → Position
+light_position number = record { part = Light; item = number; sub = 0 }
 
 -- the rules of the next light, after those in `before`
 unfoldable pub light_rules : List Members → Members → List Rule
-light_rules before members = table_rules (light_place (length before + 1)) light_keys members
+light_rules before members = table_rules (light_position (length before + 1)) light_keys members
 
 -- ---- a dyeing
 
@@ -50,12 +50,12 @@ dyeing_keys = must (codes "units") (a_whole 1 20000) ∷ must (codes "curve") a_
 unfoldable pub dyeing_value : Members → JobDyeing
 dyeing_value members = record { units = whole_at (codes "units") 0 members; curve = text_at (codes "curve") members }
 
-abbrev pub dyeing_place : ℕ → ℕ → Place
-dyeing_place dye number = record { part = Dyeing; item = dye; sub = number }
+abbrev pub dyeing_position : ℕ → ℕ → Position
+dyeing_position dye number = record { part = Dyeing; item = dye; sub = number }
 
 -- the rules of the next dyeing of the dye with this number, after those in `before`
 unfoldable pub dyeing_rules : ℕ → List Members → Members → List Rule
-dyeing_rules dye before members = table_rules (dyeing_place dye (length before + 1)) dyeing_keys members
+dyeing_rules dye before members = table_rules (dyeing_position dye (length before + 1)) dyeing_keys members
 
 -- ---- a dye
 
@@ -82,25 +82,25 @@ dye_value members = record {
   dyeing = record { items = map dyeing_value (tables_at (codes "dyeing") members) };
 }
 
-abbrev pub dye_place : ℕ → Place
-dye_place number = record { part = Dye; item = number; sub = 0 }
+abbrev pub dye_position : ℕ → Position
+dye_position number = record { part = Dye; item = number; sub = 0 }
 
 -- the closing rules of the next dye, after those in `before`: the least is not above the most, the
 -- most steps weigh at most 20,000 units, and no dye before it has its name
-abbrev pub dye_closing : Place → List JobDye → JobDye → List Rule
-dye_closing place before d =
-    rule_at place OutOfRange (nat_le d.least d.most)
-    ∷ rule_at place TooWide (nat_le (d.step * d.most) 20000)
-    ∷ rule_at place DoubleDye (not (has_dye before d.name))
+abbrev pub dye_closing : Position → List JobDye → JobDye → List Rule
+dye_closing position before d =
+    rule_at position OutOfRange (nat_le d.least d.most)
+    ∷ rule_at position TooWide (nat_le (d.step * d.most) 20000)
+    ∷ rule_at position DoubleDye (not (has_dye before d.name))
     ∷ []
 
 -- the rules of the next dye, after those in `before`: those of its keys, those of its dyeings, and
 -- the closing rules
 unfoldable pub dye_rules : List Members → Members → List Rule
 dye_rules before members =
-    table_rules (dye_place (length before + 1)) dye_keys members
+    table_rules (dye_position (length before + 1)) dye_keys members
     ++ in_turn (dyeing_rules (length before + 1)) [] (tables_at (codes "dyeing") members)
-    ++ dye_closing (dye_place (length before + 1)) (map dye_value before) (dye_value members)
+    ++ dye_closing (dye_position (length before + 1)) (map dye_value before) (dye_value members)
 
 -- ---- a pair
 
@@ -110,20 +110,20 @@ pair_keys = must (codes "a") a_name ∷ must (codes "b") a_name ∷ []
 unfoldable pub pair_value : Members → JobPair
 pair_value members = record { a = text_at (codes "a") members; b = text_at (codes "b") members }
 
-abbrev pub pair_place : ℕ → Place
-pair_place number = record { part = Pair; item = number; sub = 0 }
+abbrev pub pair_position : ℕ → Position
+pair_position number = record { part = Pair; item = number; sub = 0 }
 
 -- the closing rules of a pair: both are dyes of the job, and they are different
-abbrev pub pair_closing : Place → List JobDye → JobPair → List Rule
-pair_closing place dyes p =
-    rule_at place UnknownDye (has_dye dyes p.a && has_dye dyes p.b)
-    ∷ rule_at place SamePair (not (bytes_eq p.a p.b))
+abbrev pub pair_closing : Position → List JobDye → JobPair → List Rule
+pair_closing position dyes p =
+    rule_at position UnknownDye (has_dye dyes p.a && has_dye dyes p.b)
+    ∷ rule_at position SamePair (not (bytes_eq p.a p.b))
     ∷ []
 
 -- the rules of the next pair, after those in `before`
 unfoldable pub pair_rules : List JobDye → List Members → Members → List Rule
 pair_rules dyes before members =
-    table_rules (pair_place (length before + 1)) pair_keys members ++ pair_closing (pair_place (length before + 1)) dyes (pair_value members)
+    table_rules (pair_position (length before + 1)) pair_keys members ++ pair_closing (pair_position (length before + 1)) dyes (pair_value members)
 
 -- ---- the batch
 
@@ -137,9 +137,9 @@ batch_value members = record { curve = text_at (codes "curve") members; steps = 
 -- the dye
 abbrev pub batch_closing : List JobDye → JobBatch → List Rule
 batch_closing dyes b =
-    rule_at batch_place BatchLength (length b.steps.items == length dyes)
-    ∷ rule_at batch_place OutOfRange (are_within dyes b.steps.items)
+    rule_at batch_position BatchLength (length b.steps.items == length dyes)
+    ∷ rule_at batch_position OutOfRange (are_within dyes b.steps.items)
     ∷ []
 
 unfoldable pub batch_rules : List JobDye → Members → List Rule
-batch_rules dyes members = table_rules batch_place batch_keys members ++ batch_closing dyes (batch_value members)
+batch_rules dyes members = table_rules batch_position batch_keys members ++ batch_closing dyes (batch_value members)

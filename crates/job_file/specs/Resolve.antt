@@ -15,16 +15,16 @@ use Rattle.job_file.specs.declared.dyeing.JobDyeing.{JobDyeing}
 use Rattle.job_file.specs.declared.fault.JobFault.{JobFault}
 use Rattle.job_file.specs.declared.fault.JobRule.TheVariants.{TooStrong, UnknownColumn}
 use Rattle.job_file.specs.declared.fault.Part.TheVariants.{Dyeing}
-use Rattle.job_file.specs.declared.fault.Place.{Place}
+use Rattle.job_file.specs.declared.fault.Position.{Position}
 use Rattle.job_file.specs.declared.pair.JobPair.{JobPair}
 use Rattle.job_file.specs.Arrays.{each, if_there}
-use Rattle.job_file.specs.Batch.{batch_place}
+use Rattle.job_file.specs.Batch.{batch_position}
 use Rattle.job_file.specs.Faults.{◌>>=◌, ◌>>◌, ensure, or_fault}
-use Rattle.job_file.specs.Job.{Values, job_place}
+use Rattle.job_file.specs.Job.{Values, job_position}
 
 -- the curve of a name, or a fault where the book has none of this name
-abbrev pub curve_of : Book → Place → List ℕ → Result (List ℕ) JobFault
-curve_of book place name = or_fault place UnknownColumn (curve_named name book)
+abbrev pub curve_of : Book → Position → List ℕ → Result (List ℕ) JobFault
+curve_of book position name = or_fault position UnknownColumn (curve_named name book)
 
 -- the next dyeing of the dye with this number, after those in `before`, with its curve
 abbrev pub next_measured : Book → ℕ → List Measured → JobDyeing → Result Measured JobFault
@@ -92,11 +92,11 @@ pub record ResolvedJob : Type 0 where
 -- a fault. Last, dyes that are too strong are one
 unfoldable pub resolved_job : Book → Values → List WeightTable → Result ResolvedJob JobFault
 resolved_job book j weights = do
-  substrate ← curve_of book job_place j.head.substrate
-  standard ← curve_of book job_place j.head.standard
+  substrate ← curve_of book job_position j.head.substrate
+  standard ← curve_of book job_position j.head.standard
   dyes ← each (next_calibrated book substrate) [] j.dye
-  batch ← if_there (λ b. curve_of book batch_place b.curve) j.batch
-  ensure job_place TooStrong (not (is_too_strong (base_curve substrate batch) dyes (most_steps j.dye)))
+  batch ← if_there (λ b. curve_of book batch_position b.curve) j.batch
+  ensure job_position TooStrong (not (is_too_strong (base_curve substrate batch) dyes (most_steps j.dye)))
   Ok (record {
     job = j;
     substrate = substrate;

@@ -2,7 +2,7 @@
 use Rattle.std.specs.Prelude.{◌≡◌, ◌++◌, Bool, true, false, List, ◌∷◌, All}
 use Rattle.job_file.specs.declared.fault.JobFault.{JobFault}
 use Rattle.job_file.specs.declared.fault.JobRule.{JobRule}
-use Rattle.job_file.specs.declared.fault.Place.{Place}
+use Rattle.job_file.specs.declared.fault.Position.{Position}
 use Rattle.job_file.specs.Faults.{fault_at}
 
 -- a rule: whether it holds, and the fault that is reported where it is broken
@@ -10,9 +10,9 @@ pub record Rule : Type 0 where
   pub fault : JobFault
   pub holds : Bool
 
--- a rule at a place
-abbrev pub rule_at : Place → JobRule → Bool → Rule
-rule_at place rule holds = record { fault = fault_at place rule; holds = holds }
+-- a rule at a position
+abbrev pub rule_at : Position → JobRule → Bool → Rule
+rule_at position rule holds = record { fault = fault_at position rule; holds = holds }
 
 abbrev pub AllHold : List Rule → Type 0
 AllHold rules = All (λ rule. rule.holds ≡ true) rules

@@ -66,7 +66,7 @@ inner rule t = do
   lights ← tables (codes "light") 1 2 t
   dyes ← tables (codes "dye") 1 12 t
   pairs ← tables_or_none (codes "pair") 66 t
-  ensure t.place MissingKey (not (needs_batch rule) || has_key (codes "batch") t)
+  ensure t.position MissingKey (not (needs_batch rule) || has_key (codes "batch") t)
   found ← table_if_any (codes "batch") t
   Ok (record { light = lights; dye = dyes; pair = pairs; batch = found })
 
@@ -74,9 +74,9 @@ inner rule t = do
 -- the rule takes a batch
 unfoldable pub keys : BatchRule → Entries → Result (Unit {0}) JobFault
 keys rule t = do
-  version ← or_fault t.place NotVersion1 (version_of t.members)
+  version ← or_fault t.position NotVersion1 (version_of t.members)
   only_keys job_keys t
-  ensure t.place UnknownKey (takes_batch rule || not (has_key (codes "batch") t))
+  ensure t.position UnknownKey (takes_batch rule || not (has_key (codes "batch") t))
 
 -- the ranges of the texts and numbers of a job
 pub record IsHead (h : Head) : Type 0 where

@@ -7,7 +7,7 @@ ghost use Rattle.job_file.specs.Arrays.{all_after, array_in, table_if_any, table
 ghost use Rattle.job_file.specs.Faults.{Gives, ensure, or_fault};
 ghost use Rattle.job_file.specs.Keys.{entries_of};
 
-use crate::fault::{JobError, JobRule, Place};
+use crate::fault::{JobError, JobRule, Position};
 use crate::section::Section;
 use std::alloc::Global;
 use toml::{Table, Value};
@@ -15,15 +15,15 @@ use toml::{Table, Value};
 /// The values as tables, or a fault where one is not a table.
 fn all_tables<'a>(
     alloc: Global,
-    place: Place,
+    position: Position,
     values: &'a [Value],
 ) -> Result<Vec<&'a Table>, JobError>
     ensures { Gives (λ v. map (λ t. table_view t.now) v.items) result
-        (or_fault place JobRule.WrongKind (all_after as_table [] (items_view values.now))) }
+        (or_fault position JobRule.WrongKind (all_after as_table [] (items_view values.now))) }
 {
     let mut tables = Vec::new(alloc);
     for value in values {
-        let table = value.as_table().ok_or(place.fault(JobRule::WrongKind))?;
+        let table = value.as_table().ok_or(position.fault(JobRule::WrongKind))?;
         if tables.push(table).is_err() {
             return Err(JobError::Memory);
         }
@@ -32,15 +32,20 @@ fn all_tables<'a>(
 }
 
 /// Checks that the number of items of an array is in a range.
-pub(crate) fn count_in(place: Place, low: usize, high: usize, count: usize) -> Result<(), JobError>
+pub(crate) fn count_in(
+    position: Position,
+    low: usize,
+    high: usize,
+    count: usize,
+) -> Result<(), JobError>
     ensures is { Gives (λ x. x) result
-        (ensure place JobRule.BadCount (nat_le low count && nat_le count high)) }
+        (ensure position JobRule.BadCount (nat_le low count && nat_le count high)) }
     ensures range { IfOk result (λ _. (low ≤ count) × (count ≤ high)) }
 {
     if low <= count && count <= high {
         Ok(())
     } else {
-        Err(place.fault(JobRule::BadCount))
+        Err(position.fault(JobRule::BadCount))
     }
 }
 
@@ -49,16 +54,16 @@ fn tables_in<'a>(
     alloc: Global,
     low: usize,
     high: usize,
-    place: Place,
+    position: Position,
     value: &'a Value,
 ) -> Result<Vec<&'a Table>, JobError>
     ensures is { Gives (λ v. map (λ t. table_view t.now) v.items) result
-        (array_in as_table low high place (view value.now)) }
+        (array_in as_table low high position (view value.now)) }
     ensures range { IfOk result (λ v. (low ≤ vec_len v) × (vec_len v ≤ high)) }
 {
-    let items = value.as_array().ok_or(place.fault(JobRule::WrongKind))?;
-    let tables = all_tables(alloc, place, items.as_slice())?;
-    count_in(place, low, high, tables.len())?;
+    let items = value.as_array().ok_or(position.fault(JobRule::WrongKind))?;
+    let tables = all_tables(alloc, position, items.as_slice())?;
+    count_in(position, low, high, tables.len())?;
     Ok(tables)
 }
 
@@ -77,7 +82,7 @@ impl<'a> Section<'a> {
         ensures range { IfOk result (λ v. (low ≤ vec_len v) × (vec_len v ≤ high)) }
     {
         let value = self.required(key)?;
-        tables_in(alloc, low, high, self.place, value)
+        tables_in(alloc, low, high, self.position, value)
     }
 
     /// The tables of a key, at most `high`; none where the key is absent.
@@ -94,7 +99,7 @@ impl<'a> Section<'a> {
     {
         match self.get(key) {
             None => Ok(Vec::new(alloc)),
-            Some(value) => tables_in(alloc, 0, high, self.place, value),
+            Some(value) => tables_in(alloc, 0, high, self.position, value),
         }
     }
 
@@ -109,7 +114,7 @@ impl<'a> Section<'a> {
             Some(value) => {
                 let table = value
                     .as_table()
-                    .ok_or(self.place.fault(JobRule::WrongKind))?;
+                    .ok_or(self.position.fault(JobRule::WrongKind))?;
                 Ok(Some(table))
             }
         }

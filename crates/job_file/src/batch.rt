@@ -10,7 +10,7 @@ ghost use Rattle.job_file.specs.Keys.{entries_of};
 
 use crate::arrays::count_in;
 use crate::dye::JobDye;
-use crate::fault::{JobError, JobRule, Part, Place};
+use crate::fault::{JobError, JobRule, Part, Position};
 use crate::keys::natural_in;
 use crate::section::Section;
 use crate::text::Text;
@@ -29,13 +29,15 @@ pub struct JobBatch {
 }
 
 /// The values as whole numbers, or a fault where one is not a whole number.
-fn all_numbers(alloc: Global, place: Place, values: &[Value]) -> Result<Vec<i64>, JobError>
+fn all_numbers(alloc: Global, position: Position, values: &[Value]) -> Result<Vec<i64>, JobError>
     ensures { Gives (λ v. v.items) result
-        (or_fault place JobRule.WrongKind (all_after as_integer [] (items_view values.now))) }
+        (or_fault position JobRule.WrongKind (all_after as_integer [] (items_view values.now))) }
 {
     let mut numbers = Vec::new(alloc);
     for value in values {
-        let number = value.as_integer().ok_or(place.fault(JobRule::WrongKind))?;
+        let number = value
+            .as_integer()
+            .ok_or(position.fault(JobRule::WrongKind))?;
         if numbers.push(number).is_err() {
             return Err(JobError::Memory);
         }
@@ -44,14 +46,14 @@ fn all_numbers(alloc: Global, place: Place, values: &[Value]) -> Result<Vec<i64>
 }
 
 /// The numbers as steps, each 0 to 4,000.
-fn steps_of(place: Place, numbers: &[i64]) -> Result<Steps, JobError>
+fn steps_of(position: Position, numbers: &[i64]) -> Result<Steps, JobError>
     requires { length numbers.now ≤ 12 }
     ensures { Gives (λ s. s.items) result
-        (or_fault place JobRule.OutOfRange (naturals_after 0 4000 [] numbers.now)) }
+        (or_fault position JobRule.OutOfRange (naturals_after 0 4000 [] numbers.now)) }
 {
     let mut steps = Steps::new();
     for number in numbers {
-        let n = natural_in(0, 4000, *number).ok_or(place.fault(JobRule::OutOfRange))?;
+        let n = natural_in(0, 4000, *number).ok_or(position.fault(JobRule::OutOfRange))?;
         steps.push(n as u16);
     }
     Ok(steps)
@@ -65,10 +67,10 @@ fn numbers_of_steps(alloc: Global, table: &Section, key: &str) -> Result<Steps, 
     let value = table.required(key)?;
     let items = value
         .as_array()
-        .ok_or(table.place.fault(JobRule::WrongKind))?;
-    let numbers = all_numbers(alloc, table.place, items.as_slice())?;
-    count_in(table.place, 1, 12, numbers.len())?;
-    steps_of(table.place, &numbers)
+        .ok_or(table.position.fault(JobRule::WrongKind))?;
+    let numbers = all_numbers(alloc, table.position, items.as_slice())?;
+    count_in(table.position, 1, 12, numbers.len())?;
+    steps_of(table.position, &numbers)
 }
 
 /// Whether each number of steps is at most the `most` of its dye.
@@ -94,10 +96,10 @@ fn batch(alloc: Global, dyes: &[JobDye], table: &Section) -> Result<JobBatch, Jo
     let curve = table.name(alloc, "curve")?;
     let steps = numbers_of_steps(alloc, table, "steps")?;
     table
-        .place
+        .position
         .ensure(steps.len() == dyes.len(), JobRule::BatchLength)?;
     let fits = are_within(dyes, steps.as_slice());
-    table.place.ensure(fits, JobRule::OutOfRange)?;
+    table.position.ensure(fits, JobRule::OutOfRange)?;
     Ok(JobBatch { curve, steps })
 }
 
@@ -114,11 +116,11 @@ pub(crate) fn batch_of(
     let Some(table) = table else {
         return Ok(None);
     };
-    let place = Place {
+    let position = Position {
         part: Part::Batch,
         item: 0,
         sub: 0,
     };
-    let read = batch(alloc, dyes, &Section { place, table })?;
+    let read = batch(alloc, dyes, &Section { position, table })?;
     Ok(Some(read))
 }

@@ -11,18 +11,20 @@ ghost use Rattle.job_file.specs.Resolve.{curve_of, next_calibrated, next_measure
 
 use crate::dye::JobDye;
 use crate::dyeing::JobDyeing;
-use crate::fault::{JobError, JobRule, Part, Place};
+use crate::fault::{JobError, JobRule, Part, Position};
 use arrayvec::ArrayVec;
 use ks_curves::Dye;
 use spectral_tables::{Curve, CurveBook};
 use std::alloc::Global;
 
 /// The curve of a name, or a fault where the book has none of this name.
-pub(crate) fn curve_of(book: &CurveBook, place: Place, name: &str) -> Result<Curve, JobError>
-    ensures is { Gives (λ c. c) result (curve_of book.now place name.now) }
+pub(crate) fn curve_of(book: &CurveBook, position: Position, name: &str) -> Result<Curve, JobError>
+    ensures is { Gives (λ c. c) result (curve_of book.now position name.now) }
     ensures waves { IfOk result (λ c. length c ≡ wave_count book.now) }
 {
-    let curve = book.find(name).ok_or(place.fault(JobRule::UnknownColumn))?;
+    let curve = book
+        .find(name)
+        .ok_or(position.fault(JobRule::UnknownColumn))?;
     Ok(curve.clone()?)
 }
 
@@ -38,12 +40,12 @@ fn next_measured(
     ensures is { Gives (λ d. d) result (next_measured book.now dye before.now dyeing.now) }
     ensures range { IfOk result (IsMeasured (wave_count book.now)) }
 {
-    let place = Place {
+    let position = Position {
         part: Part::Dyeing,
         item: dye,
         sub: before.len() as u32 + 1,
     };
-    let curve = curve_of(book, place, dyeing.curve.as_str())?;
+    let curve = curve_of(book, position, dyeing.curve.as_str())?;
     Ok((dyeing.units, curve))
 }
 

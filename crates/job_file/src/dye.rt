@@ -8,7 +8,7 @@ ghost use Rattle.job_file.specs.Faults.{Gives};
 ghost use Rattle.job_file.specs.Keys.{entries_of};
 
 use crate::dyeing::{JobDyeing, dyeings};
-use crate::fault::{JobError, JobRule, Part, Place};
+use crate::fault::{JobError, JobRule, Part, Position};
 use crate::section::Section;
 use crate::text::Text;
 use arrayvec::ArrayVec;
@@ -59,11 +59,13 @@ fn dye(alloc: Global, before: &[JobDye], table: &Section) -> Result<JobDye, JobE
     let least = table.whole_or("least", 1, 4000, 1)?;
     let most = table.whole("most", 1, 4000)?;
     let tables = table.tables(alloc, "dyeing", 1, 8)?;
-    let dyeing = dyeings(alloc, table.place.item, &tables)?;
-    table.place.ensure(least <= most, JobRule::OutOfRange)?;
-    table.place.ensure(step * most <= 20_000, JobRule::TooWide)?;
+    let dyeing = dyeings(alloc, table.position.item, &tables)?;
+    table.position.ensure(least <= most, JobRule::OutOfRange)?;
     table
-        .place
+        .position
+        .ensure(step * most <= 20_000, JobRule::TooWide)?;
+    table
+        .position
         .ensure(!has_dye(before, name.as_str()), JobRule::DoubleDye)?;
     Ok(JobDye {
         name,
@@ -83,12 +85,12 @@ fn next_dye(alloc: Global, before: &[JobDye], table: &Table) -> Result<JobDye, J
     ensures range { IfOk result IsDye }
     ensures new { IfOk result (λ d. has_dye before.now d.name ≡ false) }
 {
-    let place = Place {
+    let position = Position {
         part: Part::Dye,
         item: before.len() as u32 + 1,
         sub: 0,
     };
-    dye(alloc, before, &Section { place, table })
+    dye(alloc, before, &Section { position, table })
 }
 
 /// Reads the dyes in order.

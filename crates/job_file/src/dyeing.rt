@@ -7,7 +7,7 @@ ghost use Rattle.job_file.specs.Dyeing.{IsDyeing, dyeing, next_dyeing};
 ghost use Rattle.job_file.specs.Faults.{Gives};
 ghost use Rattle.job_file.specs.Keys.{entries_of};
 
-use crate::fault::{JobError, Part, Place};
+use crate::fault::{JobError, Part, Position};
 use crate::section::Section;
 use crate::text::Text;
 use arrayvec::ArrayVec;
@@ -49,12 +49,12 @@ fn next_dyeing(
     ensures is { Gives (λ d. d) result (next_dyeing dye before.now (table_view table.now)) }
     ensures range { IfOk result IsDyeing }
 {
-    let place = Place {
+    let position = Position {
         part: Part::Dyeing,
         item: dye,
         sub: before.len() as u32 + 1,
     };
-    dyeing(alloc, &Section { place, table })
+    dyeing(alloc, &Section { position, table })
 }
 
 /// Reads the dyeings of the dye with this number in order.

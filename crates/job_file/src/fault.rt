@@ -88,16 +88,16 @@ impl From<AllocError> for JobError {
     }
 }
 
-/// The place of a table in a job.
+/// The position of a table in a job.
 #[derive(Clone, Copy, Debug, PartialEq, Eq)]
-pub(crate) struct Place {
+pub(crate) struct Position {
     pub part: Part,
     pub item: u32,
     pub sub: u32,
 }
 
-impl Place {
-    /// The fault of a rule that is broken at this place.
+impl Position {
+    /// The fault of a rule that is broken at this position.
     pub(crate) fn fault(self, rule: JobRule) -> JobError
         ensures { result ≡ JobError.Fault (fault_at self rule) }
     {
@@ -109,7 +109,7 @@ impl Place {
         })
     }
 
-    /// Checks that a rule holds at this place.
+    /// Checks that a rule holds at this position.
     pub(crate) fn ensure(self, holds: bool, rule: JobRule) -> Result<(), JobError>
         ensures { Gives (λ x. x) result (ensure self rule holds) }
     {

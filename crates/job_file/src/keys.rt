@@ -7,7 +7,7 @@ ghost use Rattle.job_file.specs.Faults.{Gives};
 ghost use Rattle.job_file.specs.Keys.{entries_of, file_text, name, natural_in, text_in, whole, whole_if_any, whole_in, whole_or};
 ghost use Rattle.job_file.specs.Texts.{is_file_text};
 
-use crate::fault::{JobError, JobRule, Place};
+use crate::fault::{JobError, JobRule, Position};
 use crate::section::Section;
 use crate::text::{Text, is_file_text};
 use spectral_tables::is_name;
@@ -25,12 +25,14 @@ pub(crate) fn natural_in(low: u64, high: u64, number: i64) -> Option<u64>
     }
 }
 
-fn whole_in(low: u64, high: u64, place: Place, value: &Value) -> Result<u64, JobError>
-    ensures is { Gives (λ n. n) result (whole_in low high place (view value.now)) }
+fn whole_in(low: u64, high: u64, position: Position, value: &Value) -> Result<u64, JobError>
+    ensures is { Gives (λ n. n) result (whole_in low high position (view value.now)) }
     ensures range { IfOk result (λ n. (low ≤ n) × (n ≤ high)) }
 {
-    let number = value.as_integer().ok_or(place.fault(JobRule::WrongKind))?;
-    natural_in(low, high, number).ok_or(place.fault(JobRule::OutOfRange))
+    let number = value
+        .as_integer()
+        .ok_or(position.fault(JobRule::WrongKind))?;
+    natural_in(low, high, number).ok_or(position.fault(JobRule::OutOfRange))
 }
 
 impl Section<'_> {
@@ -41,7 +43,7 @@ impl Section<'_> {
         ensures range { IfOk result (λ n. (low ≤ n) × (n ≤ high)) }
     {
         let value = self.required(key)?;
-        whole_in(low, high, self.place, value)
+        whole_in(low, high, self.position, value)
     }
 
     /// The whole number of a key, or `absent` where the key is not there.
@@ -61,7 +63,7 @@ impl Section<'_> {
     {
         match self.get(key) {
             None => Ok(absent),
-            Some(value) => whole_in(low, high, self.place, value),
+            Some(value) => whole_in(low, high, self.position, value),
         }
     }
 
@@ -79,7 +81,7 @@ impl Section<'_> {
         match self.get(key) {
             None => Ok(None),
             Some(value) => {
-                let number = whole_in(low, high, self.place, value)?;
+                let number = whole_in(low, high, self.position, value)?;
                 Ok(Some(number))
             }
         }
@@ -92,11 +94,13 @@ impl Section<'_> {
         ensures range { IfOk result (λ t. is_name t ≡ true) }
     {
         let value = self.required(key)?;
-        let text = value.as_str().ok_or(self.place.fault(JobRule::WrongKind))?;
+        let text = value
+            .as_str()
+            .ok_or(self.position.fault(JobRule::WrongKind))?;
         if is_name(text.as_bytes()) {
             Ok(Text::of(String::from_str(alloc, text)?))
         } else {
-            Err(self.place.fault(JobRule::OutOfRange))
+            Err(self.position.fault(JobRule::OutOfRange))
         }
     }
 
@@ -107,11 +111,13 @@ impl Section<'_> {
         ensures range { IfOk result (λ t. is_file_text t ≡ true) }
     {
         let value = self.required(key)?;
-        let text = value.as_str().ok_or(self.place.fault(JobRule::WrongKind))?;
+        let text = value
+            .as_str()
+            .ok_or(self.position.fault(JobRule::WrongKind))?;
         if is_file_text(text) {
             Ok(Text::of(String::from_str(alloc, text)?))
         } else {
-            Err(self.place.fault(JobRule::OutOfRange))
+            Err(self.position.fault(JobRule::OutOfRange))
         }
     }
 }

@@ -7,7 +7,7 @@ ghost use Rattle.job_file.specs.Faults.{Gives};
 ghost use Rattle.job_file.specs.Keys.{entries_of};
 ghost use Rattle.job_file.specs.Light.{IsLight, light, next_light};
 
-use crate::fault::{JobError, Part, Place};
+use crate::fault::{JobError, Part, Position};
 use crate::section::Section;
 use crate::text::Text;
 use arrayvec::ArrayVec;
@@ -52,12 +52,12 @@ fn next_light(alloc: Global, before: &[JobLight], table: &Table) -> Result<JobLi
     ensures is { Gives (λ l. l) result (next_light before.now (table_view table.now)) }
     ensures range { IfOk result IsLight }
 {
-    let place = Place {
+    let position = Position {
         part: Part::Light,
         item: before.len() as u32 + 1,
         sub: 0,
     };
-    light(alloc, &Section { place, table })
+    light(alloc, &Section { position, table })
 }
 
 /// Reads the lights in order.

@@ -8,7 +8,7 @@ ghost use Rattle.job_file.specs.Keys.{entries_of};
 ghost use Rattle.job_file.specs.Pair.{IsPair, next_pair, pair};
 
 use crate::dye::{JobDye, has_dye};
-use crate::fault::{JobError, JobRule, Part, Place};
+use crate::fault::{JobError, JobRule, Part, Position};
 use crate::section::Section;
 use crate::text::Text;
 use arrayvec::ArrayVec;
@@ -32,9 +32,9 @@ fn pair(alloc: Global, dyes: &[JobDye], table: &Section) -> Result<JobPair, JobE
     let a = table.name(alloc, "a")?;
     let b = table.name(alloc, "b")?;
     let known = has_dye(dyes, a.as_str()) && has_dye(dyes, b.as_str());
-    table.place.ensure(known, JobRule::UnknownDye)?;
+    table.position.ensure(known, JobRule::UnknownDye)?;
     table
-        .place
+        .position
         .ensure(!(a.as_str() == b.as_str()), JobRule::SamePair)?;
     Ok(JobPair { a, b })
 }
@@ -50,12 +50,12 @@ fn next_pair(
     ensures is { Gives (λ p. p) result (next_pair dyes.now before.now (table_view table.now)) }
     ensures names { IfOk result (IsPair dyes.now) }
 {
-    let place = Place {
+    let position = Position {
         part: Part::Pair,
         item: before.len() as u32 + 1,
         sub: 0,
     };
-    pair(alloc, dyes, &Section { place, table })
+    pair(alloc, dyes, &Section { position, table })
 }
 
 /// Reads the pairs in order.

@@ -3,13 +3,13 @@
 ghost use Rattle.std.specs.Prelude.{◌≡◌, ◌≤◌, IfOk, length};
 ghost use Rattle.toml.specs.View.{table_view};
 ghost use Rattle.job_file.specs.Faults.{Gives, or_fault};
-ghost use Rattle.job_file.specs.Job.{job_at, job_of, job_place, tree_of};
+ghost use Rattle.job_file.specs.Job.{job_at, job_of, job_position, tree_of};
 ghost use Rattle.job_file.specs.JobView.{job_view};
 ghost use Rattle.job_file.specs.Keys.{entries_of};
 
 use crate::batch::batch_of;
 use crate::dye::dyes;
-use crate::fault::{JobError, JobRule, Part, Place};
+use crate::fault::{JobError, JobRule, Part, Position};
 use crate::job::Job;
 use crate::light::lights;
 use crate::pair::pairs;
@@ -18,7 +18,7 @@ use crate::top::{BatchRule, find_inner, keys, read_head};
 use std::alloc::Global;
 use toml::{Table, table_from_slice};
 
-pub(crate) const JOB_PLACE: Place = Place {
+pub(crate) const JOB_POSITION: Position = Position {
     part: Part::Job,
     item: 0,
     sub: 0,
@@ -26,7 +26,7 @@ pub(crate) const JOB_PLACE: Place = Place {
 
 /// The table of a TOML document.
 fn document(alloc: Global, bytes: &[u8]) -> Result<Table, JobError>
-    ensures { Gives table_view result (or_fault job_place JobRule.NotToml (tree_of bytes.now)) }
+    ensures { Gives table_view result (or_fault job_position JobRule.NotToml (tree_of bytes.now)) }
 {
     match table_from_slice(alloc, bytes) {
         Ok(table) => Ok(table),
@@ -34,7 +34,7 @@ fn document(alloc: Global, bytes: &[u8]) -> Result<Table, JobError>
             if error.is_memory() {
                 Err(JobError::Memory)
             } else {
-                Err(JOB_PLACE.fault(JobRule::NotToml))
+                Err(JOB_POSITION.fault(JobRule::NotToml))
             }
         }
     }
@@ -69,7 +69,7 @@ fn job(alloc: Global, rule: BatchRule, table: &Section) -> Result<Job, JobError>
     })
 }
 
-/// Reads a job. The error is its first fault with its place, or that memory ran out.
+/// Reads a job. The error is its first fault with its position, or that memory ran out.
 #[tactic(auto, unfolding(crate::specs::Job::job_of))]
 pub fn read_job(alloc: Global, bytes: &[u8], batch: BatchRule) -> Result<Job, JobError>
     ensures { Gives job_view result (job_of batch bytes.now) }
@@ -79,7 +79,7 @@ pub fn read_job(alloc: Global, bytes: &[u8], batch: BatchRule) -> Result<Job, Jo
         alloc,
         batch,
         &Section {
-            place: JOB_PLACE,
+            position: JOB_POSITION,
             table: &table,
         },
     )

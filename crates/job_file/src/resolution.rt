@@ -3,7 +3,7 @@
 ghost use Rattle.std.specs.Prelude.{◌≡◌, IfOk, IfSome, All, length, vec_len};
 ghost use Rattle.spectral_tables.specs.CurveBook.{wave_count};
 ghost use Rattle.job_file.specs.Arrays.{if_there};
-ghost use Rattle.job_file.specs.Batch.{batch_place};
+ghost use Rattle.job_file.specs.Batch.{batch_position};
 ghost use Rattle.job_file.specs.Faults.{Gives};
 ghost use Rattle.job_file.specs.JobView.{job_view};
 ghost use Rattle.job_file.specs.Resolve.{base_curve, curve_of, resolved_job};
@@ -11,11 +11,11 @@ ghost use Rattle.job_file.specs.ResolvedView.{resolved_view};
 
 use crate::batch::JobBatch;
 use crate::calibrated::{calibrated, curve_of};
-use crate::fault::{JobError, JobRule, Part, Place};
+use crate::fault::{JobError, JobRule, Part, Position};
 use crate::job::Job;
 use crate::limits::{grid_of, limits_of, most_steps};
 use crate::lists::{DyeList, WeightsList};
-use crate::read::JOB_PLACE;
+use crate::read::JOB_POSITION;
 use crate::resolved::Resolved;
 use crate::strength::is_too_strong;
 use spectral_tables::{Curve, CurveBook, Weights};
@@ -24,18 +24,18 @@ use std::alloc::Global;
 /// The curve of the cloth of the batch, if there is one.
 fn batch_curve(book: &CurveBook, batch: &Option<JobBatch>) -> Result<Option<Curve>, JobError>
     ensures is { Gives (λ c. c) result
-        (if_there (λ b. curve_of book.now batch_place b.curve) batch.now) }
+        (if_there (λ b. curve_of book.now batch_position b.curve) batch.now) }
     ensures waves { IfOk result (λ o. IfSome o (λ c. length c ≡ wave_count book.now)) }
 {
     let Some(batch) = batch else {
         return Ok(None);
     };
-    let place = Place {
+    let position = Position {
         part: Part::Batch,
         item: 0,
         sub: 0,
     };
-    let curve = curve_of(book, place, batch.curve.as_str())?;
+    let curve = curve_of(book, position, batch.curve.as_str())?;
     Ok(Some(curve))
 }
 
@@ -64,14 +64,14 @@ pub fn resolve(
     requires waves { All (λ w. length w.weights ≡ wave_count book.now) weights.items }
     ensures { Gives resolved_view result (resolved_job book.now (job_view job) weights.items) }
 {
-    let substrate = curve_of(book, JOB_PLACE, job.substrate.as_str())?;
-    let standard = curve_of(book, JOB_PLACE, job.standard.as_str())?;
+    let substrate = curve_of(book, JOB_POSITION, job.substrate.as_str())?;
+    let standard = curve_of(book, JOB_POSITION, job.standard.as_str())?;
     let dyes = calibrated(alloc, book, &substrate, job.dye.as_slice())?;
     let batch = batch_curve(book, &job.batch)?;
     let most = most_steps(job.dye.as_slice());
     let base = base_curve(&substrate, &batch);
     let strong = is_too_strong(base, &dyes, most.as_slice());
-    JOB_PLACE.ensure(!strong, JobRule::TooStrong)?;
+    JOB_POSITION.ensure(!strong, JobRule::TooStrong)?;
     let grid = grid_of(job.dye.as_slice());
     let limits = limits_of(&job);
     Ok(Resolved {

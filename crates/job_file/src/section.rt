@@ -1,4 +1,4 @@
-//! A table of a job with its place.
+//! A table of a job with its position.
 
 ghost use Rattle.std.specs.Prelude.{◌≡◌, map, option_map, string_bytes};
 ghost use Rattle.std.specs.List.{list_all, list_any};
@@ -9,13 +9,13 @@ ghost use Rattle.toml.specs.View.{table_view, view};
 ghost use Rattle.job_file.specs.Faults.{Gives};
 ghost use Rattle.job_file.specs.Keys.{entries_of, has_only, only_keys, required};
 
-use crate::fault::{JobError, JobRule, Place};
+use crate::fault::{JobError, JobRule, Position};
 use toml::{Table, Value};
 
-/// A table of a job, and its place.
+/// A table of a job, and its position.
 #[derive(Clone, Copy, Drop)]
 pub(crate) struct Section<'a> {
-    pub place: Place,
+    pub position: Position,
     pub table: &'a Table,
 }
 
@@ -45,7 +45,7 @@ impl<'a> Section<'a> {
         ensures { Gives (λ x. x) result
             (only_keys (map (λ k. k.now) keys.now) (entries_of self.now)) }
     {
-        self.place
+        self.position
             .ensure(has_only(keys, self.table), JobRule::UnknownKey)
     }
 
@@ -63,7 +63,7 @@ impl<'a> Section<'a> {
     {
         match self.get(key) {
             Some(value) => Ok(value),
-            None => Err(self.place.fault(JobRule::MissingKey)),
+            None => Err(self.position.fault(JobRule::MissingKey)),
         }
     }
 }

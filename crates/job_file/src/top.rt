@@ -109,10 +109,10 @@ fn only_job_keys(table: &Section) -> Result<(), JobError>
 pub(crate) fn keys(rule: BatchRule, table: &Section) -> Result<(), JobError>
     ensures { Gives (λ x. x) result (keys rule (entries_of table.now)) }
 {
-    version_of(table).ok_or(table.place.fault(JobRule::NotVersion1))?;
+    version_of(table).ok_or(table.position.fault(JobRule::NotVersion1))?;
     only_job_keys(table)?;
     let known = takes_batch(rule) || !has_key(table, "batch");
-    table.place.ensure(known, JobRule::UnknownKey)
+    table.position.ensure(known, JobRule::UnknownKey)
 }
 
 /// Reads the texts and numbers of a job.
@@ -157,7 +157,7 @@ pub(crate) fn find_inner<'a>(
     let dye = table.tables(alloc, "dye", 1, 12)?;
     let pair = table.tables_or_none(alloc, "pair", 66)?;
     let there = !needs_batch(rule) || has_key(table, "batch");
-    table.place.ensure(there, JobRule::MissingKey)?;
+    table.position.ensure(there, JobRule::MissingKey)?;
     let batch = table.table_if_any("batch")?;
     Ok(Inner {
         light,

@@ -12,7 +12,7 @@ use Rattle.job_file.specs.Arrays.{each, if_there}
 use Rattle.job_file.specs.Batch.{batch_of}
 use Rattle.job_file.specs.Dye.{next_dye}
 use Rattle.job_file.specs.Faults.{or_fault}
-use Rattle.job_file.specs.Job.{Values, job_at, job_of, job_place, tree_of}
+use Rattle.job_file.specs.Job.{Values, job_at, job_of, job_position, tree_of}
 use Rattle.job_file.specs.Keys.{Entries, file_text, name, natural_in, only_keys, or_else, required, whole, whole_if_any, whole_in, whole_or}
 use Rattle.job_file.specs.Light.{light, next_light}
 use Rattle.job_file.specs.Pair.{next_pair}
@@ -27,9 +27,9 @@ not_true : (b : Bool) → not b ≡ true → b ≡ false
 not_true true h = absurd (false≢true h)
 not_true false h = refl
 
-passed : (test : List ℕ → Bool) (t : Entries) (text x : List ℕ) → or_fault t.place OutOfRange (if test text then Some text else None) ≡ Ok x → test x ≡ true
+passed : (test : List ℕ → Bool) (t : Entries) (text x : List ℕ) → or_fault t.position OutOfRange (if test text then Some text else None) ≡ Ok x → test x ≡ true
 passed test t text x h = go (test text) refl h where
-  go : (b : Bool) → test text ≡ b → or_fault t.place OutOfRange (if b then Some text else None) ≡ Ok x → test x ≡ true
+  go : (b : Bool) → test text ≡ b → or_fault t.position OutOfRange (if b then Some text else None) ≡ Ok x → test x ≡ true
   go true e k = subst (λ y. test y ≡ true) (ok_same text x k) e
   go false e k = absurd (err_ok _ x k)
 
@@ -42,25 +42,25 @@ file_is_no_cert : (key : List ℕ) (t : Entries) (name : List ℕ) → file_text
 unfolding file_text
 file_is_no_cert key t name h =
     let value = bind_ok (required key t) _ name h in
-    let text = bind_ok (or_fault t.place WrongKind (as_str value.0)) _ name value.2 in
+    let text = bind_ok (or_fault t.position WrongKind (as_str value.0)) _ name value.2 in
     no_cert name (passed is_file_text t text.0 name text.2)
 
 abbrev IsIn : ℕ → ℕ → ℕ → Type 0
 IsIn low high n = (low ≤ n) × (n ≤ high)
 
-natural_is_in : (low high : ℕ) (t : Entries) (z : ℤ) (n : ℕ) → or_fault t.place OutOfRange (natural_in low high z) ≡ Ok n → IsIn low high n
+natural_is_in : (low high : ℕ) (t : Entries) (z : ℤ) (n : ℕ) → or_fault t.position OutOfRange (natural_in low high z) ≡ Ok n → IsIn low high n
 natural_is_in low high t (pos m) n h = go (nat_le low m && nat_le m high) refl h where
-  go : (b : Bool) → (nat_le low m && nat_le m high) ≡ b → or_fault t.place OutOfRange (if b then Some m else None) ≡ Ok n → IsIn low high n
+  go : (b : Bool) → (nat_le low m && nat_le m high) ≡ b → or_fault t.position OutOfRange (if b then Some m else None) ≡ Ok n → IsIn low high n
   go true e k =
       let both = and_parts (nat_le low m) (nat_le m high) e in
       subst (IsIn low high) (ok_same m n k) (leb-true low m both.0, leb-true m high both.1)
   go false e k = absurd (err_ok _ n k)
 natural_is_in low high t (negsuc m) n h = absurd (err_ok _ n h)
 
-whole_is_in : (low high absent : ℕ) (t : Entries) (o : Option Data) (n : ℕ) → IsIn low high absent → or_else absent (whole_in low high t.place) o ≡ Ok n → IsIn low high n
+whole_is_in : (low high absent : ℕ) (t : Entries) (o : Option Data) (n : ℕ) → IsIn low high absent → or_else absent (whole_in low high t.position) o ≡ Ok n → IsIn low high n
 whole_is_in low high absent t None n i h = subst (IsIn low high) (ok_same absent n h) i
 whole_is_in low high absent t (Some value) n i h =
-    let z = bind_ok (or_fault t.place WrongKind (as_integer value)) _ n h in
+    let z = bind_ok (or_fault t.position WrongKind (as_integer value)) _ n h in
     natural_is_in low high t z.0 n z.2
 
 budget_is_in : (t : Entries) (n : ℕ) → whole_or (codes "budget") 1 1000000 100000 t ≡ Ok n → IsIn 1 1000000 n
@@ -119,8 +119,8 @@ table_fits rule t v h =
 job_fits : (rule : BatchRule) (text : List ℕ) (v : Values) → job_of rule text ≡ Ok v → Fits v
 unfolding job_of
 job_fits rule text v h =
-    let members = bind_ok (or_fault job_place NotToml (tree_of text)) _ v h in
-    table_fits rule (record { place = job_place; members = members.0 }) v members.2
+    let members = bind_ok (or_fault job_position NotToml (tree_of text)) _ v h in
+    table_fits rule (record { position = job_position; members = members.0 }) v members.2
 
 pub files_are_no_certs : FilesAreNoCerts
 files_are_no_certs rule text v h =

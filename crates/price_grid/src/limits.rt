@@ -79,8 +79,8 @@ pub fn admits(grid: &Grid, limits: &Limits, steps: &Steps) -> Result<(), LimitNo
     Ok(())
 }
 
-/// Whether some dye is above its most steps, or used with fewer than its least, in every recipe
-/// from `low` to `high`: one of the two, in all of them.
+/// Whether some dye is above its most steps in every recipe from `low` to `high`, or is used with
+/// fewer than its least in every one of them.
 fn excludes_range(grid: &Grid, limits: &Limits, low: &Steps, high: &Steps) -> bool
     requires fit { FitGrid grid.now (limits_view limits.now) }
     requires low { IsRecipe grid.now low.now.items }

@@ -32,7 +32,7 @@ fn curves_of(alloc: Global, records: &[ByteRecord]) -> Result<CurveBook, TableEr
 
 /// The curves of a file of at most 1,000,000 bytes, by name in the order of their columns.
 ///
-/// The first record is `nm` and 1 to 64 names, each another. Each further record is a wavelength,
+/// The first record is `nm` and 1 to 64 names, no two alike. Each further record is a wavelength,
 /// from 400 to 700 nm in steps of 10 nm, and a percentage from 0.01 to 100 under each name. A byte
 /// order mark and spaces and tabs around a field are ignored.
 ///

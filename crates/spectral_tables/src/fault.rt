@@ -14,7 +14,7 @@ pub enum TableRule {
     /// The record of the wavelength that must follow is missing, or there is a record that must not
     /// follow.
     BadWavelength,
-    /// A record has not as many fields as the header.
+    /// A record has another number of fields than the header.
     WrongCount,
     /// A field is not a decimal number, has a digit other than 0 after the last decimal place that
     /// it may have, or is above 10^15 in units of that place.
