@@ -1,5 +1,5 @@
 -- The recipes of the grid are those of the plain list.
-use Rattle.std.proofs.Common.{◌≡◌, ◌+◌, ◌<◌, ℕ, zero, suc, List, [], ◌∷◌, length, get_or, ◌⊎◌, inl, inr, arith}
+use Rattle.std.proofs.Common.{◌≡◌, ◌<◌, ℕ, zero, suc, List, [], ◌∷◌, length, get_or, inl, inr, arith}
 use Rattle.std.specs.List.{Contains}
 use Rattle.box_specs.specs.Landscape.{Land}
 use Rattle.box_specs.proofs.Answers.{IsIn, all_listed, listed_within}

@@ -1,5 +1,5 @@
 -- The result of a check.
-use Rattle.std.specs.Prelude.{◌+◌, ℕ, Bool, true, false, if◌then◌else◌, Option, Some, None, List, [], ◌∷◌, length}
+use Rattle.std.specs.Prelude.{◌+◌, ℕ, if◌then◌else◌, Option, Some, None, List, [], ◌∷◌, length}
 use Rattle.box_specs.specs.declared.certificate.Checked.{Checked}
 use Rattle.box_specs.specs.declared.certificate.Checked.TheVariants.{Accepted, Refused}
 use Rattle.box_specs.specs.declared.certificate.CertLine.{CertLine}
@@ -7,8 +7,6 @@ use Rattle.box_specs.specs.declared.certificate.Claim.{Claim}
 use Rattle.box_specs.specs.declared.certificate.Claim.TheVariants.{Floor, Match, NoMatch}
 use Rattle.box_specs.specs.declared.certificate.Why.{Why}
 use Rattle.box_specs.specs.declared.certificate.Why.TheVariants.{WrongList}
-use Rattle.box_specs.specs.declared.judged.Judged.{Judged}
-use Rattle.box_specs.specs.declared.judged.Judged.TheVariants.{Fail, Limit, Pass, StillOpen, Undecided}
 use Rattle.box_specs.specs.Landscape.{Land}
 use Rattle.box_specs.specs.Validity.{corners, is_pass_line, is_undecided_line, line_failure, or_next, unclaimed_failure, unmarked_failure}
 use Rattle.cert_check.specs.Marks.{has_pass_line}
@@ -25,21 +23,6 @@ tree_failure l claim listed lines =
     or_next (line_failure l claim listed (4 + length listed) (l.top ∷ []) lines)
     (or_next (unmarked_failure l (corners is_undecided_line (l.top ∷ []) lines) 4 listed)
     (unclaimed_failure l claim (corners is_pass_line (l.top ∷ []) lines)))
-
--- the result of judging a box is that its one recipe is undecided, or that it passes
-abbrev pub is_judged_undecided : Judged → Bool
-is_judged_undecided (Limit k) = false
-is_judged_undecided (Fail j) = false
-is_judged_undecided StillOpen = false
-is_judged_undecided Pass = false
-is_judged_undecided Undecided = true
-
-abbrev pub is_judged_pass : Judged → Bool
-is_judged_pass (Limit k) = false
-is_judged_pass (Fail j) = false
-is_judged_pass StillOpen = false
-is_judged_pass Pass = true
-is_judged_pass Undecided = false
 
 -- a match fails where no line is a pass line
 abbrev pub unclaimed_by : Claim → List CertLine → Option (ℕ × Why)

@@ -5,7 +5,6 @@ ghost use Rattle.box_specs.specs.declared.certificate.CertLine.TheVariants.{Pass
 ghost use Rattle.box_specs.specs.Span.{IsWithin};
 ghost use Rattle.box_specs.specs.Validity.{is_claimed, is_dear, is_listed, line_fault, splits, unless};
 ghost use Rattle.cert_check.specs.Ready.{IsPart, IsReady, IsSorted};
-ghost use Rattle.cert_check.specs.Result.{is_judged_pass, is_judged_undecided};
 ghost use Rattle.cert_check.specs.Walk.{AtMostOne};
 
 use crate::grid::{is_before, is_same};
@@ -52,26 +51,6 @@ fn is_claimed(claim: &Claim, steps: &Steps) -> bool
     }
 }
 
-/// Whether a box was judged to be one undecided recipe.
-fn is_undecided(judged: Judged) -> bool
-    ensures { result ≡ is_judged_undecided judged }
-{
-    match judged {
-        Judged::Undecided => true,
-        Judged::Limit(_) | Judged::Fail(_) | Judged::StillOpen | Judged::Pass => false,
-    }
-}
-
-/// Whether a box was judged to be one passing recipe.
-fn is_pass(judged: Judged) -> bool
-    ensures { result ≡ is_judged_pass judged }
-{
-    match judged {
-        Judged::Pass => true,
-        Judged::Limit(_) | Judged::Fail(_) | Judged::StillOpen | Judged::Undecided => false,
-    }
-}
-
 /// Whether a recipe is listed.
 fn is_listed<L: Landscape>(land: &L, listed: &StepsList, steps: &Steps) -> bool
     requires sorted { IsSorted (L.land land.now) listed.now }
@@ -98,7 +77,7 @@ fn undecided_fault<L: Landscape>(
     if !part.is_single() {
         return Some(Why::NotPoint);
     }
-    if !is_undecided(land.judge(part, meter)) {
+    if land.judge(part, meter) != Judged::Undecided {
         return Some(Why::NotUndecided);
     }
     unless(is_listed(land, listed, &part.lo), Why::WrongList)
@@ -121,7 +100,7 @@ fn pass_fault<L: Landscape>(
     if !part.is_single() {
         return Some(Why::NotPoint);
     }
-    if !is_pass(land.judge(part, meter)) {
+    if land.judge(part, meter) != Judged::Pass {
         return Some(Why::NotPassing);
     }
     unless(is_claimed(claim, &part.lo), Why::WrongList)

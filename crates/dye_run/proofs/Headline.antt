@@ -33,7 +33,7 @@ use Rattle.dye_run.specs.Forms.{check, correct, demo, form_of, predict}
 use Rattle.dye_run.specs.Headline.{Confirms, Finds, IsJobOfFiles, IsSearchStatus, SaysOfRecipes, Summarises}
 use Rattle.dye_run.specs.Inputs.{table_limit}
 use Rattle.dye_run.specs.Jobs.{asks_cert, asks_job, cert_limit, job_from, job_limit, light_files, unless_broken}
-use Rattle.dye_run.specs.Outcome.{Fault, conclusion_status, grammar, invalid, outcome_of, reported, too_long}
+use Rattle.dye_run.specs.Outcome.{conclusion_status, grammar, invalid, outcome_of, reported, too_long}
 use Rattle.dye_run.specs.Outcome as outcome
 use Rattle.dye_run.specs.Search.{conclusion_of, result_for, result_report, search_report}
 use Rattle.dye_run.specs.Statuses as table
