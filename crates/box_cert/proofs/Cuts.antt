@@ -3,6 +3,7 @@ use Rattle.std.proofs.Common.{◌≡◌, ℕ, suc, ◌+◌, Bool, true, false, n
 use Rattle.std.specs.Prelude.{Option, Some, None, option_map, unwrap_or}
 use Rattle.std.specs.List.{position, prefix_len}
 use Rattle.std.proofs.lemmas.Bool.Decides.{nat_tests}
+use Rattle.std.proofs.lemmas.Option.{none-some}
 use Rattle.box_cert.specs.Lines.{cut_at, is_mark}
 
 abbrev pub parts : List ℕ → ℕ → List ℕ × List ℕ
@@ -38,9 +39,6 @@ cut_is mark (b ∷ bs) = go (is_mark mark b) (cut_is mark bs) where
   go true h = ap (λ q. option_map (parts (b ∷ bs)) (cond q (Some 0) None)) (sym (lt_suc (length bs)))
   go false h = ap (option_map (onto b)) h ∙ later (nat_lt p (length bs)) ∙ ap (λ q. option_map (parts (b ∷ bs)) (cond q (Some (1 + p)) None)) (sym (lt_same p (length bs)))
 
-none_some : {A : Type 0} (x : A) → None ≡ Some x → ⊥
-none_some x h = cc
-
 some_same : (x y : List ℕ × List ℕ) → Some x ≡ Some y → x ≡ y
 some_same x y h = ap (λ o. unwrap_or o x) h
 
@@ -49,14 +47,14 @@ is_it b mark h = grind (arith, nat_tests)
 
 -- both parts make the text again, with the mark between
 pub cut_takes : (mark : ℕ) (text : List ℕ) (r : List ℕ × List ℕ) → cut_at mark text ≡ Some r → text ≡ r.0 ++ (mark ∷ r.1)
-cut_takes mark [] r h = absurd (none_some r h)
+cut_takes mark [] r h = absurd (none-some r h)
 cut_takes mark (b ∷ bs) r h = go (is_mark mark b) refl (cut_at mark bs) (cut_takes mark bs) h where
   go : (q : Bool) → is_mark mark b ≡ q → (o : Option (List ℕ × List ℕ)) → ((s : List ℕ × List ℕ) → o ≡ Some s → bs ≡ s.0 ++ (mark ∷ s.1))
       → (if q then Some ([], bs) else option_map (onto b) o) ≡ Some r → b ∷ bs ≡ r.0 ++ (mark ∷ r.1)
   go true is o rest e =
       let P : List ℕ × List ℕ → Type 0 = λ p. b ∷ bs ≡ p.0 ++ (mark ∷ p.1) in
       subst P (some_same ([], bs) r e) (ap (λ x. x ∷ bs) (is_it b mark is))
-  go false is None rest e = absurd (none_some r e)
+  go false is None rest e = absurd (none-some r e)
   go false is (Some s) rest e =
       let P : List ℕ × List ℕ → Type 0 = λ p. b ∷ bs ≡ p.0 ++ (mark ∷ p.1) in
       subst P (some_same (onto b s) r e) (ap (λ t. b ∷ t) (rest s refl))

@@ -7,6 +7,7 @@ use Rattle.std.proofs.lemmas.Bool.Decides.{nat_tests}
 use Rattle.std.proofs.lemmas.Fmt.{decimal_digit, decimal_nonempty, decimal-digits_value, digits_decimal, digits_value-decimal, first_decimal}
 use Rattle.std.proofs.lemmas.Str.Parse.{IsNumeralModel, numerals_by_fold}
 use Rattle.dec_text.specs.Decimal.{digits_from, is_digit}
+use Rattle.std.proofs.lemmas.Option.{none-some}
 use Rattle.box_cert.specs.Lines.{is_mark}
 use Rattle.box_cert.specs.Numbers.{in_range, is_numeral, is_plain, number_of}
 
@@ -59,9 +60,6 @@ alone [] h e = absurd (false≢true h)
 alone (d ∷ []) h e = refl
 alone (d ∷ (x ∷ ds)) h e = absurd (false≢true (sym (ap (λ k. not (k == 48)) e) ∙ h))
 
-none_some : {A : Type 0} (x : A) → None ≡ Some x → ⊥
-none_some x h = cc
-
 -- a word that is read as a number of a range is the digits of that number
 pub record IsSpelled (least most : ℕ) (word : List ℕ) (n : ℕ) : Type 0 where
   pub is : word ≡ decimal n
@@ -81,12 +79,12 @@ number_takes least most word n fits h = go (is_numeral word) refl h where
       let p = first_holds (is_plain word) (list_all is_digit word) is in
       let d = rest_holds (is_plain word) (list_all is_digit word) is in
       record { is = sym (decimal-digits_value own word d (longer word p) (alone word p) (omega (arith, m, fits))) ∙ ap decimal same; low = omega (arith, l, same); high = omega (arith, m, same) }
-  ranged true false low high is e = absurd (none_some n e)
-  ranged false b low high is e = absurd (none_some n e)
+  ranged true false low high is e = absurd (none-some n e)
+  ranged false b low high is e = absurd (none-some n e)
 
   go : (q : Bool) → is_numeral word ≡ q → (if q then in_range least most (digits_from 0 word) else None) ≡ Some n → IsSpelled least most word n
   go true is e = ranged (nat_le least (digits_from 0 word)) (nat_le (digits_from 0 word) most) refl refl is e
-  go false is e = absurd (none_some n e)
+  go false is e = absurd (none-some n e)
 
 -- no byte is the mark
 abbrev pub has_no : ℕ → List ℕ → Bool

@@ -1,5 +1,5 @@
 -- A file that is written in pieces.
-use Rattle.std.proofs.Common.{◌≡◌, ◌+◌, ◌≤◌, ◌<◌, ℕ, Bool, true, false, if◌then◌else◌, IfSome, List, [], ◌∷◌, ◌++◌, length, take, drop, option_map, Option, Some, None, IsTrue, IsSome, refl, sym, ap, ◌∙◌, subst, arith, append_assoc, length-append, get_or, flat_map}
+use Rattle.std.proofs.Common.{◌≡◌, ◌+◌, ◌≤◌, ◌<◌, ℕ, Bool, true, false, if◌then◌else◌, IfSome, List, [], ◌∷◌, ◌++◌, length, take, drop, option_map, Option, Some, None, Result, Ok, Err, IsTrue, IsSome, refl, sym, ap, ◌∙◌, subst, arith, append_assoc, length-append, get_or, flat_map}
 use Rattle.std.specs.Option.{ForSome}
 use Rattle.std.specs.Str.{bytes_eq}
 use Rattle.std.proofs.lemmas.Bool.{false≢true}
@@ -11,7 +11,8 @@ use Rattle.shelf_io.specs.Counts.{CountsFailure}
 use Rattle.shelf_io.specs.View.{ShelfView}
 use Rattle.shelf_io.proofs.Keeping.{writes_then}
 use Rattle.shelf_io.proofs.Written.{written_more}
-use Rattle.box_cert.specs.Writing.{Fails, GoesOn, GoesWrong, Holds, IsHeld}
+use Rattle.std.proofs.lemmas.Option.{none-some}
+use Rattle.box_cert.specs.Writing.{Goes, Fails, GoesOn, GoesWrong, Holds, IsHeld}
 
 -- a failure within a text is one within a longer text that begins with it
 pub fails_more : (name text more : List ℕ) (start now : ShelfView) → Fails name text start now → Fails name (text ++ more) start now
@@ -50,6 +51,11 @@ pub on_wrong : (name a b w0 w1 : List ℕ) (old mid new : ShelfView) → GoesOn 
 on_wrong name a b w0 w1 old mid new f g = λ start text h.
     let P : List ℕ → Type 0 = λ t. Fails name t start new in
     subst P (append_assoc text a b) (g start (text ++ a) (f start text h))
+
+-- a piece was put, and then another one, or an append failed while it was put
+pub on_goes : {T E : Type 0} (name a b w0 w1 w2 : List ℕ) (old mid new : ShelfView) (result : Result T E) → GoesOn name a w0 old w1 mid → Goes name b result w1 mid w2 new → Goes name (a ++ b) result w0 old w2 new
+on_goes name a b w0 w1 w2 old mid new (Ok _) f g = on_on name a b w0 w1 w2 old mid new f g
+on_goes name a b w0 w1 w2 old mid new (Err _) f g = on_wrong name a b w0 w1 old mid new f g
 
 -- an append fails before the last piece
 pub wrong_more : (name a b w0 : List ℕ) (old new : ShelfView) → GoesWrong name a w0 old new → GoesWrong name (a ++ b) w0 old new
@@ -94,9 +100,6 @@ wrong_flush name waiting old new adds effect counted unpromised = λ start text 
           unpromised more (h.effect.writes_kept (length waiting + more) (subst R e p)).0;
     }
 
-none_some : (c : Contents) → None ≡ Some c → ⊥
-none_some c h = cc
-
 still_some : (q : Bool) (piece : List ℕ) (o : Option (List ℕ)) → IsSome o → IsSome (if q then option_map (λ bytes. bytes ++ piece) o else o)
 still_some true piece None h = absurd (false≢true h)
 still_some true piece (Some bytes) h = refl
@@ -106,7 +109,7 @@ still_some false piece o h = h
 pub held_more : (name piece : List ℕ) (old new : ShelfView) → IsHeld name old → AddsTo name piece old.contents new.contents → IsHeld name new
 held_more name piece old new held adds = go old.contents held adds.0 where
   go : (o : Option Contents) → ForSome o (λ c. IsSome (c.file name)) → new.contents ≡ option_map (add_piece name piece) o → ForSome new.contents (λ c. IsSome (c.file name))
-  go None h e = λ c is. absurd (none_some c (sym e ∙ is))
+  go None h e = λ c is. absurd (none-some c (sym e ∙ is))
   go (Some d) h e = λ c is.
       let P : Option Contents → Type 0 = λ x. IfSome x (λ k. IsSome (k.file name)) in
       let there : IfSome (Some (add_piece name piece d)) (λ k. IsSome (k.file name)) = still_some (bytes_eq name name) piece (d.file name) (h d refl) in

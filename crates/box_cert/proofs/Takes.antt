@@ -5,6 +5,7 @@ use Rattle.std.specs.Str.{bytes_eq}
 use Rattle.std.proofs.lemmas.Bool.Decides.{nat_tests}
 use Rattle.std.proofs.lemmas.List.{append-nil}
 use Rattle.std.proofs.lemmas.Slice.Eq.{bytes_eq-Decides}
+use Rattle.std.proofs.lemmas.Option.{none-some}
 use Rattle.box_specs.specs.declared.certificate.CertFault.{CertFault}
 use Rattle.box_specs.specs.declared.certificate.CertLine.{CertLine}
 use Rattle.box_specs.specs.declared.certificate.CertLine.TheVariants.{Dear, Fail, Limit, Pass, Split, Undecided}
@@ -19,9 +20,6 @@ use Rattle.box_cert.specs.Text.{◌>>=◌, Cursor, byte_first, cert_of, claim_in
 use Rattle.box_cert.proofs.Cuts.{cut_takes}
 use Rattle.box_cert.proofs.Numerals.{number_takes}
 use Rattle.box_cert.proofs.Parts.{then_claim, then_count, then_end, then_list, then_tree}
-
-none_some : {A : Type 0} (x : A) → None ≡ Some x → ⊥
-none_some x h = cc
 
 err_ok : {A : Type 0} (e : CertFault) (x : A) → Err e ≡ Ok x → ⊥
 err_ok e x h = cc
@@ -51,11 +49,11 @@ bind_ok (Ok x) f y h = (x, refl, h)
 bind_ok (Err e) f y h = absurd (err_ok e y h)
 
 map_some : {A B : Type 0} (f : A → B) (o : Option A) (y : B) → option_map f o ≡ Some y → (x : A) × (o ≡ Some x) × (f x ≡ y)
-map_some f None y h = absurd (none_some y h)
+map_some f None y h = absurd (none-some y h)
 map_some f (Some x) y h = (x, refl, some_same (f x) y h)
 
 then_some : {A B : Type 0} (f : A → Option B) (o : Option A) (y : B) → option_and_then f o ≡ Some y → (x : A) × (o ≡ Some x) × (f x ≡ Some y)
-then_some f None y h = absurd (none_some y h)
+then_some f None y h = absurd (none-some y h)
 then_some f (Some x) y h = (x, refl, h)
 
 chosen : {A : Type 0} (b : Bool) (x y z : Option A) → (if b then x else y) ≡ z → ((b ≡ true) × (x ≡ z)) ⊎ (y ≡ z)
@@ -64,7 +62,7 @@ chosen false x y z h = inr h
 
 -- where numbers are read, the first was read, and so were the others
 first_read : (o : Option ℕ) (more : Option (List ℕ)) (ns : List ℕ) → number_before o more ≡ Some ns → (n : ℕ) × (ms : List ℕ) × (o ≡ Some n) × (more ≡ Some ms) × (ns ≡ n ∷ ms)
-first_read None more ns h = absurd (none_some ns h)
+first_read None more ns h = absurd (none-some ns h)
 first_read (Some n) more ns h = let m = map_some (λ xs. n ∷ xs) more ns h in (n, m.0, refl, m.1, sym m.2)
 
 spaced : (n : ℕ) (ns : List ℕ) → 0 < length ns → numbers_text (n ∷ ns) ≡ decimal n ++ (32 ∷ numbers_text ns)
@@ -94,7 +92,7 @@ numbers_takes (suc k) text ns h =
     }
 
 pub recipe_takes : (dims : ℕ) (text ns : List ℕ) → recipe_of dims text ≡ Some ns → text ≡ numbers_text ns
-recipe_takes zero text ns h = absurd (none_some ns h)
+recipe_takes zero text ns h = absurd (none-some ns h)
 recipe_takes (suc k) text ns h = (numbers_takes k text ns h).is
 
 is_it : (b mark : ℕ) → (b == mark) ≡ true → b ≡ mark
@@ -103,14 +101,14 @@ is_it b mark h = grind (arith, nat_tests)
 -- a text that is read as a line of a tree is its spelling
 pub line_takes : (text : List ℕ) (line : CertLine) → line_of text ≡ Some line → text ≡ line_text line
 unfolding line_text
-line_takes [] line h = absurd (none_some line h)
+line_takes [] line h = absurd (none-some line h)
 line_takes (letter ∷ []) line h = first (letter == 100) (letter == 117) (letter == 112) refl refl refl h where
   first : (a b c : Bool) → (letter == 100) ≡ a → (letter == 117) ≡ b → (letter == 112) ≡ c
       → (if a then Some Dear else (if b then Some Undecided else (if c then Some Pass else None))) ≡ Some line → letter ∷ [] ≡ line_text line
   first true b c p q r e = ap (λ x. x ∷ []) (is_it letter 100 p) ∙ ap line_text (some_same Dear line e)
   first false true c p q r e = ap (λ x. x ∷ []) (is_it letter 117 q) ∙ ap line_text (some_same Undecided line e)
   first false false true p q r e = ap (λ x. x ∷ []) (is_it letter 112 r) ∙ ap line_text (some_same Pass line e)
-  first false false false p q r e = absurd (none_some line e)
+  first false false false p q r e = absurd (none-some line e)
 line_takes (letter ∷ (space ∷ text)) line h = second (space == 32) refl h where
   limit : option_map (λ k. Limit k) (number_of 1 5 text) ≡ Some line → 120 ∷ (32 ∷ text) ≡ line_text line
   limit e =
@@ -138,11 +136,11 @@ line_takes (letter ∷ (space ∷ text)) line h = second (space == 32) refl h wh
   third true b c p q r e = ap (λ x. x ∷ (32 ∷ text)) (is_it letter 115 p) ∙ split e
   third false true c p q r e = ap (λ x. x ∷ (32 ∷ text)) (is_it letter 120 q) ∙ limit e
   third false false true p q r e = ap (λ x. x ∷ (32 ∷ text)) (is_it letter 102 r) ∙ light e
-  third false false false p q r e = absurd (none_some line e)
+  third false false false p q r e = absurd (none-some line e)
 
   second : (b : Bool) → (space == 32) ≡ b → (if b then lettered_line letter text else None) ≡ Some line → letter ∷ (space ∷ text) ≡ line_text line
   second true p e = ap (λ x. letter ∷ (x ∷ text)) (is_it space 32 p) ∙ third (letter == 115) (letter == 120) (letter == 102) refl refl refl e
-  second false p e = absurd (none_some line e)
+  second false p e = absurd (none-some line e)
 
 same_bytes : (a b : List ℕ) → bytes_eq a b ≡ true → a ≡ b
 same_bytes a b h = (bytes_eq-Decides a b).0 h
@@ -152,13 +150,13 @@ header_takes : (line : List ℕ) (x : Unit {0}) → header_of line ≡ Some x �
 header_takes line x h = go (bytes_eq line (codes "dye-cert 1")) refl h where
   go : (b : Bool) → bytes_eq line (codes "dye-cert 1") ≡ b → (if b then Some tt else None) ≡ Some x → line ≡ codes "dye-cert 1"
   go true p e = same_bytes line _ p
-  go false p e = absurd (none_some x e)
+  go false p e = absurd (none-some x e)
 
 claim_takes : (dims : ℕ) (line : List ℕ) (claim : Claim) → claim_of dims line ≡ Some claim → line ≡ claim_text claim
 claim_takes dims line claim h = go (cut_at 32 line) refl h where
   none : (b : Bool) → bytes_eq line (codes "none") ≡ b → (if b then Some NoMatch else None) ≡ Some claim → line ≡ claim_text claim
   none true p e = same_bytes line _ p ∙ ap claim_text (some_same NoMatch claim e)
-  none false p e = absurd (none_some claim e)
+  none false p e = absurd (none-some claim e)
 
   worded : (r : List ℕ × List ℕ) → line ≡ r.0 ++ (32 ∷ r.1) → (a b : Bool) → bytes_eq r.0 (codes "match") ≡ a → bytes_eq r.0 (codes "floor") ≡ b
       → (if a then option_map (λ ns. Match (record { items = ns })) (recipe_of dims r.1) else (if b then option_map (λ cost. Floor cost) (number_of 0 (10 ^ 15) r.1) else None)) ≡ Some claim
@@ -169,7 +167,7 @@ claim_takes dims line claim h = go (cut_at 32 line) refl h where
   worded r l false true p q e =
       let m = map_some (λ cost. Floor cost) (number_of 0 (10 ^ 15) r.1) claim e in
       l ∙ ap (λ w. w ++ (32 ∷ r.1)) (same_bytes r.0 (codes "floor") q) ∙ ap (λ t. codes "floor" ++ (32 ∷ t)) (number_takes 0 (10 ^ 15) r.1 m.0 (omega arith) m.1).is ∙ ap claim_text m.2
-  worded r l false false p q e = absurd (none_some claim e)
+  worded r l false false p q e = absurd (none-some claim e)
 
   go : (o : Option (List ℕ × List ℕ)) → cut_at 32 line ≡ o → claim_in dims line o ≡ Some claim → line ≡ claim_text claim
   go None p e = none (bytes_eq line (codes "none")) refl e
@@ -179,10 +177,10 @@ count_takes : (line : List ℕ) (count : ℕ) → count_of line ≡ Some count �
 count_takes line count h = go (cut_at 32 line) refl h where
   worded : (r : List ℕ × List ℕ) → line ≡ r.0 ++ (32 ∷ r.1) → (a : Bool) → bytes_eq r.0 (codes "undecided") ≡ a → (if a then number_of 0 1000000 r.1 else None) ≡ Some count → line ≡ count_text count
   worded r l true p e = l ∙ ap (λ w. w ++ (32 ∷ r.1)) (same_bytes r.0 (codes "undecided") p) ∙ ap (λ t. codes "undecided" ++ (32 ∷ t)) (number_takes 0 1000000 r.1 count (omega arith) e).is
-  worded r l false p e = absurd (none_some count e)
+  worded r l false p e = absurd (none-some count e)
 
   go : (o : Option (List ℕ × List ℕ)) → cut_at 32 line ≡ o → count_in o ≡ Some count → line ≡ count_text count
-  go None p e = absurd (none_some count e)
+  go None p e = absurd (none-some count e)
   go (Some r) p e = worded r (cut_takes 32 line r p) (bytes_eq r.0 (codes "undecided")) refl e
 
 -- the text that is still to be read

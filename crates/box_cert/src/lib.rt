@@ -11,5 +11,5 @@ mod write;
 pub use box_core::{CertFault, CertRule};
 pub use fault::CertError;
 pub use line::{put_line, put_recipe, read_line, read_recipe};
-pub use read::read_cert;
+pub use read::{CERT_LIMIT, read_cert};
 pub use write::write_cert;

@@ -7,6 +7,7 @@ ghost use Rattle.box_specs.specs.declared.certificate.CertRule.TheVariants.{BadC
 ghost use Rattle.box_cert.specs.Lines.{line_of, recipe_of};
 ghost use Rattle.box_cert.specs.Spelling.{Content, cert_text, content};
 ghost use Rattle.box_cert.specs.Text.{AreRecipes, Gives, HasDims, IsCertFor, IsTree, cert_of, claim_of, count_of, cursor_of, header_of, next_line, next_of, parts_of, recipes_at, trees_at};
+ghost use Rattle.box_cert.specs.declared.read.TheConstants.{CERT_LIMIT};
 
 use crate::fault::{CertError, fault};
 use crate::line::{read_line, read_recipe};
@@ -14,6 +15,9 @@ use crate::number::{cut_at, number};
 use box_core::{Cert, CertLine, CertRule, Claim, LineList, StepsList};
 use price_grid::Steps;
 use std::alloc::Global;
+
+/// How many bytes the text of a certificate may have.
+pub const CERT_LIMIT: u64 = 64_000_000;
 
 /// The next line, and the text after it.
 #[tactic(auto, using(crate::proofs::TextLines::lines_cut))]
@@ -205,7 +209,7 @@ fn parts_of(line: CertLine) -> u32
 
 /// Reads one tree: its lines, the text after them, and the number of the next line.
 fn tree(alloc: Global, text: &[u8], first: u32) -> Result<(Vec<CertLine>, &[u8], u32), CertError>
-    requires short { length text.now ≤ 64000000 }
+    requires short { length text.now ≤ CERT_LIMIT }
     requires first { first ≤ 1000004 }
     ensures is { Gives (λ r. (r.0.items, cursor_of r.2 r.1.now)) result
         (trees_at 1 (cursor_of first text.now)) }
@@ -233,7 +237,7 @@ fn tree(alloc: Global, text: &[u8], first: u32) -> Result<(Vec<CertLine>, &[u8],
 /// The certificate that the bytes spell, or their first fault.
 #[tactic(auto, unfolding(crate::specs::Text::cert_of))]
 fn whole_cert(alloc: Global, bytes: &[u8], dims: usize) -> Result<Cert, CertError>
-    requires short { length bytes.now ≤ 64000000 }
+    requires short { length bytes.now ≤ CERT_LIMIT }
     requires some { 1 ≤ dims }
     requires few { dims ≤ 12 }
     ensures exact { Gives (λ cert. content cert) result (cert_of dims bytes.now) }
@@ -258,7 +262,7 @@ fn whole_cert(alloc: Global, bytes: &[u8], dims: usize) -> Result<Cert, CertErro
 ///
 /// Memory grows only with the lines that are there, however many recipes the third line states.
 pub fn read_cert(alloc: Global, bytes: &[u8], dims: usize) -> Result<Cert, CertError>
-    requires short { length bytes.now ≤ 64000000 }
+    requires short { length bytes.now ≤ CERT_LIMIT }
     requires some { 1 ≤ dims }
     requires few { dims ≤ 12 }
     // The result is the one that the grammar defines, the certificate or the first fault, unless

@@ -35,6 +35,23 @@ fn flush<H: Shelf>(
     Ok(())
 }
 
+/// Appends the waiting bytes to the file, and then no bytes, at which a shelf of real files stores
+/// all that was written.
+fn finish<H: Shelf>(
+    shelf: &mut H,
+    name: &str,
+    waiting: &mut ArrayVec<u8, 4096>,
+) -> Result<(), Failed>
+    requires { IsHeld name.now (H.view shelf.old) }
+    ensures { Goes name.now [] result
+        waiting.old.items (H.view shelf.old) [] (H.view shelf.new) }
+{
+    let Ok(()) = flush(shelf, name, waiting) else {
+        return Err(Failed);
+    };
+    flush(shelf, name, waiting)
+}
+
 /// Appends the waiting bytes to the file where there are more than `FULL`.
 fn make_room<H: Shelf>(
     shelf: &mut H,
@@ -199,11 +216,11 @@ fn put_cert<H: Shelf>(cert: &Cert, shelf: &mut H, name: &str) -> Result<(), Fail
     let Ok(()) = put_lines(shelf, name, &mut waiting, cert.lines.as_slice()) else {
         return Err(Failed);
     };
-    flush(shelf, name, &mut waiting)
+    finish(shelf, name, &mut waiting)
 }
 
 /// Writes the text of the certificate to the file of this name. It appends at most 4,096 bytes at a
-/// time and allocates no memory. After a failure, `Failed`, the file is as before or holds a prefix
+/// time, and no bytes at last, so that the shelf can store the file; it allocates no memory. After a failure, `Failed`, the file is as before or holds a prefix
 /// of the text.
 pub fn write_cert<H: Shelf>(cert: &Cert, shelf: &mut H, name: &str) -> Result<(), Failed>
     requires some { 1 ≤ length name.now }

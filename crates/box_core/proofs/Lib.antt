@@ -1,3 +1,2 @@
-mod Corners
 mod HalfBoxes
 mod Splitting

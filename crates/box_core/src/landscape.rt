@@ -83,7 +83,7 @@ pub trait Landscape {
 }
 
 /// The key of the lower corner of a box, which is the least of its keys.
-#[tactic(auto, using(crate::proofs::Corners::corner_within))]
+#[tactic(auto, using(box_specs::proofs::Spans::corner_within))]
 pub fn corner_key<L: Landscape>(land: &L, part: &BoxR) -> Key
     requires { IsInside part.now (L.land land.now).top }
     ensures { key_view result ≡ key_at (L.land land.now) part.now.lo }

@@ -10,7 +10,7 @@ pub mod laws;
 mod lists;
 mod part;
 
-pub use box_specs::{CertFault, CertLine, CertRule, Checked, Claim, Judged, Why};
+pub use box_specs::{CertFault, CertLine, CertRule, Checked, Claim, Cutoff, Judged, Why};
 pub use cert::Cert;
 pub use evals::Evals;
 pub use landscape::{Landscape, corner_key};

@@ -10,7 +10,7 @@ use Rattle.box_specs.specs.declared.certificate.CertLine.TheVariants.{Dear, Fail
 use Rattle.box_specs.specs.declared.certificate.Claim.{Claim}
 use Rattle.box_specs.specs.declared.certificate.Claim.TheVariants.{Floor, Match, NoMatch}
 use Rattle.box_specs.specs.Canonical.{IsCanonical, IsClaim, IsPart, canonical_lines, is_judged, line_by, line_of}
-use Rattle.box_specs.specs.Landscape.{Grade, IsLawful, Land, fails, judged_by, light_of, limit_of, passes, unsure}
+use Rattle.box_specs.specs.Landscape.{Grade, IsLawful, Land, fails, judged_by, light_of, limit_of, passes, unsure, IsSound}
 use Rattle.box_specs.specs.Span.{IsWithin, Span, is_single}
 use Rattle.box_specs.specs.Splits.{cut_of}
 use Rattle.box_specs.specs.Tree.{Spot, Tree, root, tree_of}
@@ -18,7 +18,8 @@ use Rattle.box_specs.specs.Validity.{IsValid, corners, is_undecided_line}
 use Rattle.box_specs.proofs.Cuts.{cut_fits, same_count}
 use Rattle.box_core.specs.Ranges.{AreOfLength, ClaimFits, HaveOneLength, LineFits, StepsFit, first_length, recipes_of}
 use Rattle.box_search.specs.Answers.{IsFound}
-use Rattle.box_search.specs.Trees.{IsSound, IsSoundTree}
+use Rattle.box_search.specs.declared.nodes.Node.{Node}
+use Rattle.box_search.specs.Trees.{IsSoundTree}
 use Rattle.box_search.proofs.Ranks.{whole}
 use Rattle.box_search.proofs.Trees.{sound_of}
 use Rattle.box_search.proofs.Valid.{at_top, canonical_is_valid, corner_in, first_is}
@@ -125,9 +126,9 @@ pub record IsMade (l : Land) (budget : ℕ) (claim : Claim) (rs : List (List ℕ
   pub one_length : HaveOneLength claim rs
   pub numbers : ClaimFits claim × All StepsFit rs × All LineFits xs
 
-pub made : (l : Land) → IsLawful l → (budget : ℕ) (claim : Claim) (listed : List (List ℕ)) (n : ℕ) (g : Spot → Option CertLine) → IsFound l budget claim listed n g → budget ≤ 1000000
+pub made : (l : Land) → IsLawful l → (budget : ℕ) (claim : Claim) (listed : List (List ℕ)) (n : ℕ) (nodes : List Node) → IsFound l budget claim listed n nodes → budget ≤ 1000000
     → (rs : List (List ℕ)) (xs : List CertLine) → rs ≡ listed → xs ≡ canonical_lines l n → IsMade l budget claim rs xs n
-made l lawful budget claim listed n g f few rs xs er ex =
+made l lawful budget claim listed n nodes f few rs xs er ex =
     subst (λ a. IsMade l budget claim a xs n) (sym er) (subst (λ a. IsMade l budget claim listed a n) (sym ex) (record {
       canonical = f.canonical;
       valid = canonical_is_valid l lawful budget claim listed (canonical_lines l n) n f.canonical;

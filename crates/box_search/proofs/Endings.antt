@@ -12,7 +12,7 @@ use Rattle.box_specs.specs.declared.certificate.CertLine.{CertLine}
 use Rattle.box_specs.specs.declared.certificate.Claim.{Claim}
 use Rattle.box_specs.specs.Answer.{IsAnswer, IsFirstMatch, answer_of, is_match}
 use Rattle.box_specs.specs.Canonical.{IsCanonical, IsClaim, IsPart, canonical_lines, is_judged, line_of}
-use Rattle.box_specs.specs.Landscape.{IsLawful, Land, is_before, is_final, is_shut, key_of}
+use Rattle.box_specs.specs.Landscape.{IsLawful, Land, is_before, is_final, is_shut, key_of, IsSound}
 use Rattle.box_specs.specs.Span.{IsWithin, Span, is_single}
 use Rattle.box_specs.specs.Splits.{cut_of, lower_half, upper_half}
 use Rattle.box_specs.specs.Tree.{Spot, Tree, count, fork, is_needed, leaf, need, rank, root, spot_cmp, spot_of, tree_of}
@@ -20,10 +20,14 @@ use Rattle.box_specs.specs.Validity.{corners, is_listed, is_pass_line, is_undeci
 use Rattle.box_specs.proofs.Answers.{never_before_itself}
 use Rattle.box_specs.proofs.Cuts.{not_both as not_both_halves}
 use Rattle.box_search.specs.Frontier.{IsAt, IsCovered, IsUndecided, State, done_in, is_done, with_entry, without}
-use Rattle.box_search.proofs.Frontier.{IsChild, Turned, corner_in_box, entry_cases, equal_test, none_some, part_trans, same_part, some_same, spot_same, without_cases}
-use Rattle.box_search.proofs.Orders.{before_by_key, before_on, by, key_not_before, next_deeper, not_after, not_both, not_deeper, not_itself, on_before, precedes, spot_up, spots_are_ordered, tied_keys}
+use Rattle.box_search.proofs.Frontier.{IsChild, Turned, corner_in_box, entry_cases, equal_test, part_trans, same_part, some_same, spot_same, without_cases}
+use Rattle.std.proofs.lemmas.Option.{none-some}
+use Rattle.box_search.proofs.Orders.{before_by_key, before_on, by, key_not_before, next_deeper, not_after, not_both, not_deeper, not_itself, on_before, precedes, spot_up, spots_are_ordered}
+use Rattle.box_specs.proofs.Keys.{tied_keys}
 use Rattle.box_search.proofs.Ranks.{alike, at_sound, at_tree, below_after, ge_test, judged_above, lt_test, not_false, not_true, whole}
-use Rattle.box_search.proofs.Trees.{IsSound, IsSoundTree, corner_within, count_le, count_lt, halved, part_root, whole_root}
+use Rattle.box_search.specs.Trees.{IsSoundTree}
+use Rattle.box_search.proofs.Trees.{count_le, count_lt, halved, part_root, whole_root}
+use Rattle.box_specs.proofs.Spans.{corner_within}
 use Rattle.box_search.proofs.Valid.{MatchLeaf, answer, at_top, corner_in, first_is, line_match, match_leaf}
 use Rattle.box_search.proofs.Walks.{corners_are, mark, passing}
 
@@ -36,7 +40,7 @@ with_halves l d b f =
     with_entry (spot_of l (d + 1) (lower_half b (cut_of b))) (lower_half b (cut_of b)) (with_entry (spot_of l (d + 1) (upper_half b (cut_of b))) (upper_half b (cut_of b)) f)
 
 -- the halves of a box have different places
-two_places : (l : Land) (d : ℕ) (b : Span) → IsSound l b → is_final l b ≡ false → is_eq (spot_cmp (spot_of l d (lower_half b (cut_of b))) (spot_of l d (upper_half b (cut_of b)))) ≡ false
+pub two_places : (l : Land) (d : ℕ) (b : Span) → IsSound l b → is_final l b ≡ false → is_eq (spot_cmp (spot_of l d (lower_half b (cut_of b))) (spot_of l d (upper_half b (cut_of b)))) ≡ false
 two_places l d b i h = by (is_eq (spot_cmp (spot_of l d (lower_half b (cut_of b))) (spot_of l d (upper_half b (cut_of b)))))
     (λ x.
     let corner : b.lo ≡ (upper_half b (cut_of b)).lo = ap (λ (q : Spot). q.key.steps) (spot_same (spot_of l d (lower_half b (cut_of b))) (spot_of l d (upper_half b (cut_of b))) x) in
@@ -142,9 +146,9 @@ module _ (l : Land) (lawful : IsLawful l) where
       before_upper : is_final l b ≡ false → precedes (spot_of l (d + 1) (lower_half b (cut_of b))) (spot_of l (d + 1) (upper_half b (cut_of b))) ≡ true
       before_upper h =
           let two = halved l b sound h in
-          let high = corner_within l (upper_half b (cut_of b)) l.top two.upper.box two.upper.inside in
+          let high = corner_within (upper_half b (cut_of b)) l.top two.upper.box two.upper.inside in
           let up = spot_up (spot_of l (d + 1) (lower_half b (cut_of b))) (spot_of l (d + 1) (upper_half b (cut_of b)))
-          (lawful.grows b.lo (upper_half b (cut_of b)).lo (corner_within l b l.top sound.box sound.inside) high two.upper_in.0) two.upper_in.0 (omega arith) in
+          (lawful.grows b.lo (upper_half b (cut_of b)).lo (corner_within b l.top sound.box sound.inside) high two.upper_in.0) two.upper_in.0 (omega arith) in
           by (precedes (spot_of l (d + 1) (lower_half b (cut_of b))) (spot_of l (d + 1) (upper_half b (cut_of b)))) (λ x. x)
           (λ x. absurd (false≢true (sym (two_places l (d + 1) b sound h) ∙ equal_test (spot_of l (d + 1) (lower_half b (cut_of b))) (spot_of l (d + 1) (upper_half b (cut_of b))) x up)))
 
@@ -190,15 +194,15 @@ module _ (l : Land) (lawful : IsLawful l) where
             box = whole_root l ∙ x.1;
             place = sym x.0 ∙ (λ j. spot_of l (sym depth j) (x.1 j));
           }
-      | inr x ↦ absurd (none_some b x)
+      | inr x ↦ absurd (none-some b x)
     ];
     later = λ z b h. refl;
     disjoint = λ z y b c r h k x w. elim (entry_cases (spot_of l 0 l.top) l.top (λ q. None) z b h) as (λ _. z ≡ y) [
       | inl p ↦ elim (entry_cases (spot_of l 0 l.top) l.top (λ q. None) y c k) as (λ _. z ≡ y) [
         | inl q ↦ sym p.0 ∙ q.0
-        | inr q ↦ absurd (none_some c q)
+        | inr q ↦ absurd (none-some c q)
       ]
-      | inr p ↦ absurd (none_some b p)
+      | inr p ↦ absurd (none-some b p)
     ];
     covers = λ e v i h. record {
       depth = 0;
@@ -215,7 +219,7 @@ module _ (l : Land) (lawful : IsLawful l) where
     every = λ e v i x y. absurd (false≢true x);
     shallow = λ z b h. elim (entry_cases (spot_of l 0 l.top) l.top (λ q. None) z b h) as (λ _. z.depth ≤ 0) [
       | inl x ↦ omega (arith, ap (λ (q : Spot). q.depth) x.0)
-      | inr x ↦ absurd (none_some b x)
+      | inr x ↦ absurd (none-some b x)
     ];
     short = omega arith;
   }
@@ -312,7 +316,7 @@ module _ (l : Land) (lawful : IsLawful l) where
   module _ (f : Spot → Option Span) (g : Spot → Option CertLine) (last : Option Spot) (n : ℕ) (listed : List (List ℕ)) (s : State l f g last n listed None) where
     -- no judged box passes so far, so the box of a match is not judged yet
     not_done : (a : List ℕ) → (x : MatchLeaf l a) → done_in l last x.depth x.box ≡ false
-    not_done a x = by (done_in l last x.depth x.box) (λ y. absurd (none_some x.box.lo (s.clean x.depth (leaf x.box) x.part y x.line))) (λ y. y)
+    not_done a x = by (done_in l last x.depth x.box) (λ y. absurd (none-some x.box.lo (s.clean x.depth (leaf x.box) x.part y x.line))) (λ y. y)
 
     -- no box waits: no admitted recipe passes, and all boxes are judged
     module _ (empty : (z : Spot) → f z ≡ None) where
@@ -320,7 +324,7 @@ module _ (l : Land) (lawful : IsLawful l) where
       all_done e v i = by (done_in l last e (root v)) (λ x. x)
           (λ x.
           let c = s.covers e v i x in
-          absurd (none_some (root c.above) (sym (empty (spot_of l c.depth (root c.above))) ∙ c.waits)))
+          absurd (none-some (root c.above) (sym (empty (spot_of l c.depth (root c.above))) ∙ c.waits)))
 
       pub none_is : answer_of l ≡ None
       none_is = go (answer_of l) refl where

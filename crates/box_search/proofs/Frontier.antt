@@ -11,18 +11,23 @@ use Rattle.std.proofs.lemmas.Bool.{cases_lt, false≢true, or_right, true≢fals
 use Rattle.std.proofs.lemmas.List.Quantifiers.{all_pairs_push}
 use Rattle.std.proofs.lemmas.List.Elements.{All-get_or, All-push, All-weaker, Contains-append_left, Contains-push}
 use Rattle.price_grid.specs.Order.{key_cmp}
+use Rattle.std.proofs.lemmas.Option.{none-some}
 use Rattle.box_specs.specs.declared.certificate.CertLine.{CertLine}
-use Rattle.box_specs.specs.Canonical.{IsPart, IsRising, line_of}
-use Rattle.box_specs.specs.Landscape.{IsLawful, Land, is_before, is_shut, key_of}
+use Rattle.box_specs.specs.Canonical.{IsPart, line_of}
+use Rattle.box_specs.specs.Order.{IsRising}
+use Rattle.box_specs.specs.Landscape.{IsLawful, Land, is_before, is_shut, key_of, IsSound}
 use Rattle.box_specs.specs.Span.{IsInside, IsWithin, Span, is_single}
 use Rattle.box_specs.specs.Splits.{cut_of, lower_half, upper_half}
 use Rattle.box_specs.specs.Tree.{Spot, Tree, count, fork, leaf, root, spot_cmp, spot_of, tree_of}
 use Rattle.box_specs.specs.Validity.{is_pass_line, is_undecided_line}
 use Rattle.box_specs.proofs.Cuts.{from_lower, from_upper, in_lower, in_upper, not_both as not_both_halves}
 use Rattle.box_search.specs.Frontier.{IsAt, IsCovered, IsUndecided, State, done_in, is_done, with_entry, without}
-use Rattle.box_search.proofs.Orders.{IsTied, by, equal_one, equal_spot, equal_two, key_not_before, not_after, not_both, not_itself, on_before, precedes, same_list, same_number, spots_are_ordered, tied, tied_keys}
+use Rattle.box_search.proofs.Orders.{IsTied, by, equal_spot, key_not_before, not_after, not_both, not_itself, on_before, precedes, spots_are_ordered, tied}
+use Rattle.box_specs.proofs.Keys.{equal_one, equal_two, same_list, same_number, tied_keys}
 use Rattle.box_search.proofs.Ranks.{alike, at_sound, at_tree, below_after, not_false, not_true, whole}
-use Rattle.box_search.proofs.Trees.{IsSound, IsSoundTree, corner_within, count_le, count_lt, disjoint, halved, inside_itself, part_deep, part_inside, part_tree, sound_of, within_inside}
+use Rattle.box_search.specs.Trees.{IsSoundTree}
+use Rattle.box_search.proofs.Trees.{count_le, count_lt, disjoint, halved, part_deep, part_inside, part_tree, sound_of}
+use Rattle.box_specs.proofs.Spans.{corner_within, inside_itself, within_inside}
 use Rattle.box_search.proofs.Walks.{undecided}
 
 -- places that compare equal are the same
@@ -49,12 +54,6 @@ some_same {X} a b e = ap take e where
   take None = a
   take (Some x) = x
 
-pub none_some : {X : Type 0} (a : X) → None ≡ Some a → ⊥
-none_some {X} a e = true≢false (ap is_none_ e) where
-  is_none_ : Option X → Bool
-  is_none_ None = true
-  is_none_ (Some x) = false
-
 pub entry_cases : {X : Type 0} (q : Spot) (x : X) (f : Spot → Option X) (z : Spot) (b : X) → with_entry q x f z ≡ Some b → ((q ≡ z) × (x ≡ b)) ⊎ (f z ≡ Some b)
 entry_cases {X} q x f z b h = go (is_eq (spot_cmp q z)) refl h where
   go : (t : Bool) → is_eq (spot_cmp q z) ≡ t → (if t then Some x else f z) ≡ Some b → ((q ≡ z) × (x ≡ b)) ⊎ (f z ≡ Some b)
@@ -64,7 +63,7 @@ entry_cases {X} q x f z b h = go (is_eq (spot_cmp q z)) refl h where
 pub without_cases : {X : Type 0} (q : Spot) (f : Spot → Option X) (z : Spot) (b : X) → without q f z ≡ Some b → (is_eq (spot_cmp q z) ≡ false) × (f z ≡ Some b)
 without_cases {X} q f z b h = go (is_eq (spot_cmp q z)) refl h where
   go : (t : Bool) → is_eq (spot_cmp q z) ≡ t → (if t then None else f z) ≡ Some b → (is_eq (spot_cmp q z) ≡ false) × (f z ≡ Some b)
-  go true e y = absurd (none_some b y)
+  go true e y = absurd (none-some b y)
   go false e y = (e, y)
 
 module _ (l : Land) where
@@ -83,7 +82,7 @@ module _ (l : Land) where
 
   -- the lower corner of a box is one of its recipes
   pub corner_in_box : (b : Span) → IsSound l b → IsWithin b.lo b
-  corner_in_box b s = corner_within l b b s.box (inside_itself l b)
+  corner_in_box b s = corner_within b b s.box (inside_itself b)
 
   -- two parts at the same depth with the same lower corner are the same part
   pub same_part : (t : Tree) (k d : ℕ) (u v : Tree) → IsSoundTree l t → IsPart l t k d u → IsPart l t k d v → (root u).lo ≡ (root v).lo → u ≡ v
@@ -103,12 +102,12 @@ module _ (l : Land) where
     lower_corner : (b : Span) (s t : Tree) (k e : ℕ) (v : Tree) → IsSoundTree l (fork b s t) → IsPart l s (k + 1) e v → (root v).lo ≡ r → IsWithin r (lower_half b (cut_of b))
     lower_corner b s t k e v i h x =
         let y = sound_of l v (part_tree l s (k + 1) e v i.4 h) in
-        subst (λ w. IsWithin w (lower_half b (cut_of b))) x (subst (λ c. IsWithin (root v).lo c) i.2 (corner_within l (root v) (root s) y.box (part_inside l s (k + 1) e v i.4 h)))
+        subst (λ w. IsWithin w (lower_half b (cut_of b))) x (subst (λ c. IsWithin (root v).lo c) i.2 (corner_within (root v) (root s) y.box (part_inside l s (k + 1) e v i.4 h)))
 
     upper_corner : (b : Span) (s t : Tree) (k e : ℕ) (v : Tree) → IsSoundTree l (fork b s t) → IsPart l t (k + 1) e v → (root v).lo ≡ r → IsWithin r (upper_half b (cut_of b))
     upper_corner b s t k e v i h x =
         let y = sound_of l v (part_tree l t (k + 1) e v i.5 h) in
-        subst (λ w. IsWithin w (upper_half b (cut_of b))) x (subst (λ c. IsWithin (root v).lo c) i.3 (corner_within l (root v) (root t) y.box (part_inside l t (k + 1) e v i.5 h)))
+        subst (λ w. IsWithin w (upper_half b (cut_of b))) x (subst (λ c. IsWithin (root v).lo c) i.3 (corner_within (root v) (root t) y.box (part_inside l t (k + 1) e v i.5 h)))
 
     -- where each part that passes q passes p too, or has the depth d and the lower corner r, at
     -- most one more part passes q than p
@@ -306,7 +305,7 @@ module _ (l : Land) (lawful : IsLawful l) (f fnew : Spot → Option Span) (g : S
     -- a recipe of a child is a recipe of the judged box, and of no other box that waits
     of_child : (z : Spot) (b : Span) (r : List ℕ) → IsChild z b → IsWithin r b → IsWithin r (root u)
     of_child z b r c x =
-        within_inside l r b (root u) x (subst (λ a. IsInside a (root u)) c.box (part_inside l u d (d + 1) c.part (at_tree l lawful d u at_u) c.at))
+        within_inside r b (root u) x (subst (λ a. IsInside a (root u)) c.box (part_inside l u d (d + 1) c.part (at_tree l lawful d u at_u) c.at))
 
     not_child : (z y : Spot) (b c : Span) (r : List ℕ) → f z ≡ Some b → is_eq (spot_cmp Q z) ≡ false → IsChild y c → IsWithin r b → IsWithin r c → ⊥
     not_child z y b c r h k m x w =
@@ -419,7 +418,7 @@ module _ (l : Land) (lawful : IsLawful l) (f fnew : Spot → Option Span) (g : S
     clean : (won : Option (List ℕ)) → (is_pass_line (line_of l (root u)) ≡ true → won ≡ Some (root u).lo)
         → (e : ℕ) (v : Tree) → IsPart l (tree_of l) 0 e v → done_in l (Some Q) e (root v) ≡ true → is_pass_line (line_of l (root v)) ≡ true → won ≡ Some (root v).lo
     clean won h e v i x y = elim (newly e v i x) as (λ _. won ≡ Some (root v).lo) [
-      | inl z ↦ absurd (none_some (root v).lo (s.clean e v i z y))
+      | inl z ↦ absurd (none-some (root v).lo (s.clean e v i z y))
       | inr z ↦ h (subst (λ w. is_pass_line (line_of l (root w)) ≡ true) z.1 y) ∙ (λ k. Some (root (sym z.1 k)).lo)
     ]
 

@@ -1,3 +1,4 @@
+mod Arenas
 pub mod Certs
 mod Emitting
 mod Endings

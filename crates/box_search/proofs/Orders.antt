@@ -13,21 +13,17 @@ use Rattle.std.specs.declared.cmp.Ordering.TheVariants.{Equal, Greater, Less}
 use Rattle.price_grid.specs.Order.{KeyView, key_cmp}
 use Rattle.price_grid.proofs.CostLaws.{keys_are_ordered}
 use Rattle.box_specs.specs.Tree.{Spot, spot_cmp}
+use Rattle.box_specs.proofs.Keys.{equal_of, equal_one, equal_two, lt_turned, same_list, same_number}
 
 pub spots_are_ordered : IsTotalOrder spot_cmp
 spots_are_ordered = then_total (on_total (λ (s : Spot). s.key) keys_are_ordered) (on_total (λ (s : Spot). s.depth) nat_cmp_total)
-
-lt_swapped : (o : Ordering) → is_lt (ordering_reverse o) ≡ is_gt o
-lt_swapped Less = refl
-lt_swapped Equal = refl
-lt_swapped Greater = refl
 
 -- whether a stands before b
 abbrev pub precedes : Spot → Spot → Bool
 precedes a b = is_lt (spot_cmp a b)
 
 pub precedes_swapped : (a b : Spot) → precedes a b ≡ is_gt (spot_cmp b a)
-precedes_swapped a b = ap is_lt (spots_are_ordered.antisymm a b) ∙ lt_swapped (spot_cmp b a)
+precedes_swapped a b = ap is_lt (spots_are_ordered.antisymm a b) ∙ lt_turned (spot_cmp b a)
 
 pub not_itself : (a : Spot) → precedes a a ≡ false
 not_itself a = ap is_lt (tied_itself spots_are_ordered a)
@@ -79,32 +75,6 @@ pub record IsTied (a b : Spot) : Type 0 where
   pub steps : a.key.steps ≡ b.key.steps
   pub depth : a.depth ≡ b.depth
 
-equal_of : (o : Ordering) → is_lt o ≡ false → is_gt o ≡ false → o ≡ Equal
-equal_of Less h k = absurd (false≢true (sym h))
-equal_of Equal h k = refl
-equal_of Greater h k = absurd (false≢true (sym k))
-
-pub equal_one : (k d : Ordering) → ordering_then k d ≡ Equal → k ≡ Equal
-equal_one Less d h = h
-equal_one Equal d h = refl
-equal_one Greater d h = h
-
-pub equal_two : (k d : Ordering) → ordering_then k d ≡ Equal → d ≡ Equal
-equal_two Less d h = absurd (false≢true (ap is_eq h))
-equal_two Equal d h = h
-equal_two Greater d h = absurd (false≢true (ap is_eq h))
-
-pub same_number : (m n : ℕ) → nat_cmp m n ≡ Equal → m ≡ n
-same_number m n h = grind (arith, nat_tests, h)
-
-pub same_list : (a b : List ℕ) → slice_cmp nat_cmp a b ≡ Equal → a ≡ b
-same_list a b h = (bytes_eq-Decides a b).0 (sym (is_eq-slice_cmp a b) ∙ ap is_eq h)
-
-pub tied_keys : (a b : KeyView) → is_lt (key_cmp a b) ≡ false → is_lt (key_cmp b a) ≡ false → a.steps ≡ b.steps
-tied_keys a b h k =
-    let o = equal_of (key_cmp a b) h (sym (ap is_lt (keys_are_ordered.antisymm b a) ∙ lt_swapped (key_cmp a b)) ∙ k) in
-    same_list a.steps b.steps (equal_two (nat_cmp a.cost b.cost) (slice_cmp nat_cmp a.steps b.steps) o)
-
 -- two places, neither before the other, are tied
 pub tied : (a b : Spot) → precedes a b ≡ false → precedes b a ≡ false → IsTied a b
 tied a b h k =
@@ -147,7 +117,7 @@ cost_not_before a b h =
 -- where the key of b is not before that of a, and a is no deeper than b, b does not stand before a
 pub not_deeper : (a b : Spot) → is_lt (key_cmp b.key a.key) ≡ false → a.depth ≤ b.depth → precedes b a ≡ false
 not_deeper a b h d =
-    precedes_swapped b a ∙ then_up (key_cmp a.key b.key) (nat_cmp a.depth b.depth) (sym (ap is_lt (keys_are_ordered.antisymm b.key a.key) ∙ lt_swapped (key_cmp a.key b.key)) ∙ h) (number_up _ _ d)
+    precedes_swapped b a ∙ then_up (key_cmp a.key b.key) (nat_cmp a.depth b.depth) (sym (ap is_lt (keys_are_ordered.antisymm b.key a.key) ∙ lt_turned (key_cmp a.key b.key)) ∙ h) (number_up _ _ d)
 
 pub equal_spot : (a b : Spot) → precedes a b ≡ false → precedes b a ≡ false → spot_cmp a b ≡ Equal
 equal_spot a b h k = equal_of (spot_cmp a b) h (sym (precedes_swapped b a) ∙ k)

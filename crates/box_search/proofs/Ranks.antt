@@ -5,12 +5,14 @@ use Rattle.std.proofs.lemmas.Bool.{false≢true, true≢false}
 use Rattle.std.proofs.lemmas.Bool.Decides.{nat_tests}
 use Rattle.box_specs.specs.Answer.{answer_of}
 use Rattle.box_specs.specs.Canonical.{IsPart, is_judged}
-use Rattle.box_specs.specs.Landscape.{IsLawful, Land, is_before}
+use Rattle.box_specs.specs.Landscape.{IsLawful, Land, is_before, IsSound}
 use Rattle.box_specs.specs.Span.{IsWithin, Span}
 use Rattle.box_specs.specs.Tree.{Spot, Tree, count, is_needed, leaf, need, rank, root, spot_of, tree_of}
 use Rattle.box_specs.proofs.Answers.{not_before_trans}
 use Rattle.box_search.proofs.Orders.{before_by_key, before_on, by, key_not_before, not_both, not_itself, precedes, spot_up}
-use Rattle.box_search.proofs.Trees.{IsSound, IsSoundTree, corner_within, count_le, count_lt, inside_itself, over, part_deep, part_inside, part_tree, sound_of, whole_tree}
+use Rattle.box_search.specs.Trees.{IsSoundTree}
+use Rattle.box_search.proofs.Trees.{count_le, count_lt, over, part_deep, part_inside, part_tree, sound_of, whole_tree}
+use Rattle.box_specs.proofs.Spans.{corner_within, inside_itself}
 
 pub test_lt : (m n : ℕ) → nat_lt m n ≡ true → m < n
 test_lt m n h = grind (arith, nat_tests, h)
@@ -53,7 +55,7 @@ module _ (l : Land) (lawful : IsLawful l) where
       let high = sound_of l u i in
       let low = sound_of l v (part_tree l u d e v i h) in
       spot_up (spot_of l d (root u)) (spot_of l e (root v))
-      (lawful.grows (root u).lo (root v).lo (corner_within l (root u) l.top high.box high.inside) (corner_within l (root v) l.top low.box low.inside) inside.0) inside.0
+      (lawful.grows (root u).lo (root v).lo (corner_within (root u) l.top high.box high.inside) (corner_within (root v) l.top low.box low.inside) inside.0) inside.0
       (part_deep l u d e v h)
 
   -- a part with the lower corner of a leaf stands no deeper than that leaf
@@ -61,8 +63,8 @@ module _ (l : Land) (lawful : IsLawful l) where
   alike d e b v h k same =
       let low = at_sound d (leaf b) h in
       let high = at_sound e v k in
-      let x = corner_within l b b low.box (inside_itself l b) in
-      let y = subst (λ r. IsWithin r (root v)) (sym same) (corner_within l (root v) (root v) high.box (inside_itself l (root v))) in
+      let x = corner_within b b low.box (inside_itself b) in
+      let y = subst (λ r. IsWithin r (root v)) (sym same) (corner_within (root v) (root v) high.box (inside_itself (root v))) in
       part_deep l v e d (leaf b) (over l (tree_of l) 0 d e b v b.lo whole h k x y)
 
   -- a place that is not after another has no higher rank, and a part that stands before a place has

@@ -13,7 +13,8 @@ use Rattle.box_specs.specs.Span.{Span}
 use Rattle.box_specs.specs.Tree.{Tree, count, fork, is_needed, leaf, need, rank, root, spot_of, tree_of}
 use Rattle.box_specs.specs.Validity.{corners, is_undecided_line}
 use Rattle.box_search.specs.Laws.{ResultIsCanonical, ResultIsOne}
-use Rattle.box_search.specs.Result.{answer_claim, claim_at, corner_cost, first_box, floor_at, in_order, search_result}
+use Rattle.box_search.specs.Result.{answer_claim, claim_at, corner_cost, first_box, floor_at, search_result}
+use Rattle.box_specs.specs.Order.{in_order}
 use Rattle.box_search.proofs.Frontier.{count_more}
 use Rattle.box_search.proofs.Orders.{IsTied, by, not_itself, precedes, tied}
 use Rattle.box_search.proofs.Ranks.{At, ge_test, lt_test, rank_lt, test_lt, whole}

@@ -7,13 +7,13 @@ use Rattle.std.proofs.lemmas.List.Elements.{All-contains, All-contains_itself, A
 use Rattle.std.proofs.lemmas.Map.Views.{list_any-from_Contains}
 use Rattle.std.proofs.lemmas.Cmp.{nat_list_eq_equiv}
 use Rattle.std.proofs.lemmas.Slice.Eq.{bytes_eq-Decides}
-use Rattle.box_specs.specs.Canonical.{IsRising}
+use Rattle.box_specs.specs.Order.{IsRising, in_order, put_in}
 use Rattle.box_specs.specs.Landscape.{Land, is_before, key_of}
 use Rattle.box_specs.specs.Span.{same_steps}
 use Rattle.box_specs.specs.Validity.{is_listed}
 use Rattle.box_specs.proofs.Answers.{never_before_itself, not_before_trans, not_both_before}
-use Rattle.box_search.specs.Result.{in_order, put_in}
-use Rattle.box_search.proofs.Orders.{by, tied_keys}
+use Rattle.box_search.proofs.Orders.{by}
+use Rattle.box_specs.proofs.Keys.{tied_keys}
 
 or_cases : (a b : Bool) → a || b ≡ true → (a ≡ true) ⊎ (b ≡ true)
 or_cases true b h = inl refl

@@ -5,32 +5,13 @@ use Rattle.std.proofs.lemmas.Bool.{cases_lt, false≢true, or_right}
 use Rattle.std.proofs.lemmas.Slice.Eq.{bytes_eq-Decides}
 use Rattle.price_grid.specs.Grid.{IsUpTo}
 use Rattle.box_specs.specs.Canonical.{IsPart}
-use Rattle.box_specs.specs.Landscape.{Land, is_final, is_shut}
+use Rattle.box_specs.specs.Landscape.{IsSound, Land, is_final, is_shut}
 use Rattle.box_specs.specs.Span.{IsBox, IsInside, IsWithin, Span, is_single, single}
 use Rattle.box_specs.specs.Splits.{cut_of, lower_half, upper_half}
 use Rattle.box_specs.specs.Tree.{Tree, count, fork, grow, leaf, root, spread, tree_of}
-pub use Rattle.box_search.specs.Trees.{IsSound, IsSoundTree}
+use Rattle.box_search.specs.Trees.{IsSoundTree}
 use Rattle.box_specs.proofs.Cuts.{Cuts, cut_fits, from_lower, from_upper, in_lower, in_upper, lower_is_box, not_both, upper_is_box}
-
-pub up_to_itself : (a : List ℕ) → IsUpTo a a
-up_to_itself [] = tt
-up_to_itself (n ∷ a) = (omega arith, up_to_itself a)
-
-pub up_to_trans : (a b c : List ℕ) → IsUpTo a b → IsUpTo b c → IsUpTo a c
-up_to_trans [] [] c h k = k
-up_to_trans [] (y ∷ b) c h k = absurd h
-up_to_trans (x ∷ a) [] c h k = absurd h
-up_to_trans (x ∷ a) (y ∷ b) [] h k = absurd k
-up_to_trans (x ∷ a) (y ∷ b) (z ∷ c) h k = (omega (arith, h.0, k.0), up_to_trans a b c h.1 k.1)
-
--- two corners, each at most the other, are equal
-pub up_to_both : (a b : List ℕ) → IsUpTo a b → IsUpTo b a → a ≡ b
-up_to_both [] [] h k = refl
-up_to_both [] (y ∷ b) h k = absurd h
-up_to_both (x ∷ a) [] h k = absurd h
-up_to_both (x ∷ a) (y ∷ b) h k =
-    let first : x ≡ y = omega (arith, h.0, k.0) in
-    λ i. first i ∷ up_to_both a b h.1 k.1 i
+use Rattle.box_specs.proofs.Spans.{corner_within, inside_itself, up_to_both, up_to_itself, up_to_trans, within_inside}
 
 -- a box of one recipe has two equal corners
 pub single_corners : (b : Span) → is_single b ≡ true → b.lo ≡ b.hi
@@ -121,9 +102,6 @@ module _ (l : Land) where
   pub whole_root : root (tree_of l) ≡ l.top
   whole_root = root_grow (spread l.top.lo l.top.hi) l.top
 
-  pub corner_within : (b c : Span) → IsBox b → IsInside b c → IsWithin b.lo c
-  corner_within b c box h = (h.0, up_to_trans b.lo b.hi c.hi box h.1)
-
 module _ (l : Land) where
   -- a tree is a part of itself; its parts stand no higher than it, are trees, and lie inside its
   -- box
@@ -143,9 +121,6 @@ module _ (l : Land) where
   part_tree (fork b lower upper) k d u i (inr (inl h)) = part_tree lower (k + 1) d u i.4 h
   part_tree (fork b lower upper) k d u i (inr (inr h)) = part_tree upper (k + 1) d u i.5 h
 
-  pub inside_itself : (b : Span) → IsInside b b
-  inside_itself b = (up_to_itself b.lo, up_to_itself b.hi)
-
   pub part_inside : (t : Tree) (k d : ℕ) (u : Tree) → IsSoundTree l t → IsPart l t k d u → IsInside (root u) (root t)
   part_inside (leaf b) k d u i h = subst (λ v. IsInside (root v) b) h.1 (inside_itself b)
   part_inside (fork b lower upper) k d u i (inl h) = subst (λ v. IsInside (root v) b) h.1 (inside_itself b)
@@ -153,9 +128,6 @@ module _ (l : Land) where
       inside_trans l _ _ _ (subst (λ c. IsInside (root u) c) i.2 (part_inside lower (k + 1) d u i.4 h)) (halved l b i.0 i.1).lower_in
   part_inside (fork b lower upper) k d u i (inr (inr h)) =
       inside_trans l _ _ _ (subst (λ c. IsInside (root u) c) i.3 (part_inside upper (k + 1) d u i.5 h)) (halved l b i.0 i.1).upper_in
-
-  pub within_inside : (r : List ℕ) (b c : Span) → IsWithin r b → IsInside b c → IsWithin r c
-  within_inside r b c h k = (up_to_trans c.lo b.lo r k.0 h.0, up_to_trans r b.hi c.hi h.1 k.1)
 
   -- no recipe lies in parts of both halves
   pub disjoint : (b : Span) (lower upper : Tree) (k d e : ℕ) (u v : Tree) (r : List ℕ) → IsSoundTree l (fork b lower upper) → IsPart l lower k d u → IsPart l upper k e v

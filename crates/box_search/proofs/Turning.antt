@@ -17,7 +17,7 @@ use Rattle.box_search.specs.Answers.{is_open, is_undecided}
 use Rattle.box_search.specs.Frontier.{with_entry}
 use Rattle.box_search.specs.Places.{at, place, place_cmp}
 use Rattle.box_search.specs.declared.place.Place.{Place}
-use Rattle.box_search.proofs.Trees.{up_to_itself, up_to_trans}
+use Rattle.box_specs.proofs.Spans.{up_to_itself, up_to_trans}
 
 pub lower_inside : (b c top : Span) → IsBox b → is_single b ≡ false → IsInside b top → c ≡ lower_half b (cut_of b) → IsInside c top
 lower_inside b c top box open_ h e =

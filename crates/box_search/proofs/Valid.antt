@@ -4,43 +4,34 @@ use Rattle.std.specs.Prelude.{All, Option, Some, None, is_some}
 use Rattle.std.specs.List.{AllByRecursion, Contains}
 use Rattle.std.specs.Cmp.Lexicographic.{nat_list_eq_equiv}
 use Rattle.std.proofs.lemmas.List.Elements.{All-contains, All-from_recursion, recursion_from_All, All-weaker}
-use Rattle.std.proofs.lemmas.Map.Views.{list_any-from_Contains}
+use Rattle.std.proofs.lemmas.Map.Views.{Contains-from_any, list_any-from_Contains}
 use Rattle.std.proofs.lemmas.Bool.{and_parts, false≢true, or_right, true≢false}
 use Rattle.std.proofs.lemmas.Bool.Decides.{nat_tests}
 use Rattle.std.proofs.lemmas.Slice.Eq.{bytes_eq-Decides}
 use Rattle.box_specs.specs.declared.certificate.CertLine.{CertLine}
 use Rattle.box_specs.specs.declared.certificate.Claim.{Claim}
 use Rattle.box_specs.specs.declared.certificate.Claim.TheVariants.{Floor, Match, NoMatch}
-use Rattle.box_specs.specs.declared.certificate.Why.TheVariants.{WrongList}
 use Rattle.box_specs.specs.Answer.{IsAnswer, IsFirstMatch, answer_of, is_match, is_pass}
-use Rattle.box_specs.specs.Canonical.{IsClaim, IsPart, IsRising, canonical_lines, is_judged, line_of}
+use Rattle.box_specs.specs.Canonical.{IsClaim, IsPart, canonical_lines, is_judged, line_of}
+use Rattle.box_specs.specs.Order.{IsRising}
 use Rattle.box_specs.specs.Landscape.{Grade, IsLawful, Land, fails, is_admitted, is_before, is_shut, key_of, passes, unsure}
 use Rattle.box_specs.specs.Span.{IsWithin, Span, is_single}
 use Rattle.box_specs.specs.Tree.{Tree, count, fork, is_needed, leaf, need, rank, root, spot_of, tree_of}
-use Rattle.box_specs.specs.Validity.{IsValid, are_trees, claim_failure, corners, is_early, is_in_grid, is_listed, is_pass_line, is_undecided_line, is_within, line_failure, list_failure, or_next, unclaimed_failure, unmarked_failure}
+use Rattle.box_specs.specs.Validity.{AllHold, HaveLines, IsValid, are_trees, corners, cutoff_of, is_early, is_listed, is_pass_line, is_undecided_line, matched_of}
 use Rattle.price_grid.specs.Grid.{IsUpTo}
 use Rattle.box_specs.proofs.Answers.{answer_is, never_before_itself, not_before_trans}
 use Rattle.box_search.specs.Laws.{CanonicalIsValid}
-use Rattle.box_search.proofs.Orders.{before_by_key, by, cost_not_before, key_not_before, not_both, not_deeper, on_before, precedes, tied_keys}
+use Rattle.box_search.proofs.Orders.{before_by_key, by, cost_not_before, key_not_before, not_both, not_deeper, on_before, precedes}
+use Rattle.box_specs.proofs.Keys.{tied_keys}
 use Rattle.box_search.proofs.Ranks.{alike, at_sound, at_tree, judged_above, lower_rank, needed_is_judged, not_false, not_true, rank_lt, test_ge, test_lt, whole}
-use Rattle.box_search.proofs.Trees.{IsSoundTree, corner_within, count_le, leaf_for, single_corners, up_to_both, whole_root}
+use Rattle.box_search.specs.Trees.{IsSoundTree}
+use Rattle.box_search.proofs.Trees.{count_le, leaf_for, single_corners, whole_root}
+use Rattle.box_specs.proofs.Spans.{corner_within, up_to_both}
 use Rattle.box_search.proofs.Walks.{Fits, IsPoint, corners_are, mark, one_tree, passing, point_line, undecided, walks}
 
 -- the test of two numbers in order passes
 le_test : (m n : ℕ) → m ≤ n → nat_le m n ≡ true
 le_test m n h = grind (arith, nat_tests, h)
-
--- a recipe between two corners passes the test `is_within`
-within_test : (r low high : List ℕ) → IsUpTo low r → IsUpTo r high → is_within r low high ≡ true
-within_test [] [] high h k = refl
-within_test [] (x ∷ low) high h k = absurd h
-within_test (n ∷ r) [] high h k = absurd h
-within_test (n ∷ r) (x ∷ low) [] h k = absurd k
-within_test (n ∷ r) (x ∷ low) (y ∷ high) h k =
-    let rest = within_test r low high h.1 k.1 in
-    let low_ok = le_test x n h.0 in
-    let high_ok = le_test n y k.0 in
-    λ i. low_ok i && high_ok i && rest i
 
 module _ (l : Land) where
   -- the leaf of a match: its lower corner is the recipe, and its line passes
@@ -93,28 +84,9 @@ module _ (l : Land) where
       let p = passing l b h in
       λ i. p.0.admitted i && is_pass (p.1 i)
 
-  rest_pairs : (p s : List ℕ) (rest : List (List ℕ)) → IsRising l (p ∷ s ∷ rest) → IsRising l (s ∷ rest)
-  rest_pairs p s rest h = λ i j d a b. h (suc i) (suc j) d (omega (arith, a)) (omega (arith, b))
-
-  -- the check of the listed recipes finds no fault in a rising list of good ones
-  module _ (claim : Claim) where
-    abbrev pub Good : List ℕ → Type 0
-    Good r = (is_in_grid l r ≡ true) × (is_early l claim r ≡ true)
-
-    listed_from : (n : ℕ) (p : List ℕ) (listed : List (List ℕ)) → IsRising l (p ∷ listed) → AllByRecursion Good listed → list_failure l claim n (Some p) listed ≡ None
-    listed_from n p [] h g = refl
-    listed_from n p (s ∷ rest) h g =
-        let later : is_before l p s ≡ true = h 0 1 p (omega arith) (omega arith) in
-        ap (λ c. if c then list_failure l claim (n + 1) (Some s) rest else Some (n, WrongList)) (λ i. g.0.0 i && later i && g.0.1 i) ∙ listed_from (n + 1) s rest (rest_pairs p s rest h) g.1
-
-    pub list_holds : (n : ℕ) (listed : List (List ℕ)) → IsRising l listed → AllByRecursion Good listed → list_failure l claim n None listed ≡ None
-    list_holds n [] h g = refl
-    list_holds n (s ∷ rest) h g =
-        ap (λ c. if c then list_failure l claim (n + 1) (Some s) rest else Some (n, WrongList)) (λ i. g.0.0 i && true && g.0.1 i) ∙ listed_from (n + 1) s rest h g.1
-
-  pub marks_hold : (marked : List (List ℕ)) (n : ℕ) (listed : List (List ℕ)) → AllByRecursion (λ r. is_listed marked r ≡ true) listed → unmarked_failure l marked n listed ≡ None
-  marks_hold marked n [] h = refl
-  marks_hold marked n (s ∷ rest) h = ap (λ c. if c then unmarked_failure l marked (n + 1) rest else Some (n, WrongList)) h.0 ∙ marks_hold marked (n + 1) rest h.1
+  -- what is asked of a listed recipe
+  abbrev pub IsGood : Claim → List ℕ → Type 0
+  IsGood claim r = IsWithin r l.top × (is_early l (cutoff_of claim) r ≡ true)
 
 module _ (l : Land) (lawful : IsLawful l) where
   pub answer : IsAnswer l (answer_of l)
@@ -123,7 +95,7 @@ module _ (l : Land) (lawful : IsLawful l) where
   pub corner_in : (d : ℕ) (u : Tree) → IsPart l (tree_of l) 0 d u → IsWithin (root u).lo l.top
   corner_in d u i =
       let s = at_sound l lawful d u i in
-      corner_within l (root u) l.top s.box s.inside
+      corner_within (root u) l.top s.box s.inside
 
   match_part : (s : List ℕ) → answer_of l ≡ Some s → (d : ℕ) (u : Tree) → IsPart l (tree_of l) 0 d u → is_judged l (need l) d (root u) ≡ not (is_before l s (root u).lo)
   match_part s e d u i = sym (needed_is_judged l lawful d u i) ∙ ap (λ o. is_needed l o (root u)) e
@@ -166,20 +138,33 @@ module _ (l : Land) (lawful : IsLawful l) where
           less : (n m k : ℕ) → m < n → k ≡ m → n ≤ k → ⊥
           less n m k h1 h2 h3 = omega (arith, h1, h2, h3)
 
+  listed_by : (rs : List (List ℕ)) (r : List ℕ) → Contains rs r → is_listed rs r ≡ true
+  listed_by rs r h = list_any-from_Contains nat_list_eq_equiv r rs h
+
+  listed_of : (rs : List (List ℕ)) (r : List ℕ) → is_listed rs r ≡ true → Contains rs r
+  listed_of rs r h = Contains-from_any (λ a b. (bytes_eq-Decides a b).0) r rs h
+
+  none_passing : {lines : List CertLine} → HaveLines l is_pass_line lines []
+  none_passing {lines} = record {
+    grid = λ k d lt. absurd (omega arith);
+    rising = λ i j d a b. absurd (omega (arith, b));
+    each = λ k d lt. absurd (omega arith);
+  }
+
   module _ (listed : List (List ℕ)) (budget n : ℕ) where
     -- each part is as the claim demands
     fits : (claim : Claim) → IsClaim l budget claim → n ≡ min (need l) budget → (d : ℕ) (u : Tree) → IsPart l (tree_of l) 0 d u
-        → Fits l (is_judged l n) lawful claim listed d (root u)
+        → Fits l (is_judged l n) lawful (cutoff_of claim) (matched_of claim) listed d (root u)
     fits (Match recipe) c e d u i =
         let all : n ≡ need l = omega (arith, e, c.0) in
-        let F : ℕ → Type 0 = λ m. Fits l (is_judged l m) lawful (Match recipe) listed d (root u) in
+        let F : ℕ → Type 0 = λ m. Fits l (is_judged l m) lawful (cutoff_of (Match recipe)) (matched_of (Match recipe)) listed d (root u) in
         subst F (sym all) (record {
           dear = λ j. not_false _ (sym (match_part recipe.items c.1 d u i) ∙ j);
-          passed = λ j p. (bytes_eq-Decides recipe.items (root u).lo).1 (claimed_is recipe.items c.1 d u i j (line_match l (root u) p));
+          passed = λ j p. listed_by (recipe.items ∷ []) (root u).lo (0, omega arith, claimed_is recipe.items c.1 d u i j (line_match l (root u) p));
         })
     fits NoMatch c e d u i =
         let all : n ≡ need l = omega (arith, e, c.0) in
-        let F : ℕ → Type 0 = λ m. Fits l (is_judged l m) lawful NoMatch listed d (root u) in
+        let F : ℕ → Type 0 = λ m. Fits l (is_judged l m) lawful (cutoff_of NoMatch) (matched_of NoMatch) listed d (root u) in
         let always : is_judged l (need l) d (root u) ≡ true = sym (needed_is_judged l lawful d u i) ∙ ap (λ o. is_needed l o (root u)) c.1 in
         subst F (sym all) (record {
           dear = λ j. absurd (false≢true (sym j ∙ always));
@@ -187,7 +172,7 @@ module _ (l : Land) (lawful : IsLawful l) where
         })
     fits (Floor cost) c e d u i =
         let all : n ≡ budget = omega (arith, e, c.0) in
-        let F : ℕ → Type 0 = λ m. Fits l (is_judged l m) lawful (Floor cost) listed d (root u) in
+        let F : ℕ → Type 0 = λ m. Fits l (is_judged l m) lawful (cutoff_of (Floor cost)) (matched_of (Floor cost)) listed d (root u) in
         let f = c.1 in
         let v = c.2 in
         subst F (sym all) (record {
@@ -208,15 +193,15 @@ module _ (l : Land) (lawful : IsLawful l) where
 
     -- the undecided recipe of a judged box is in the grid, and before the claimed one
     good : (claim : Claim) → IsClaim l budget claim → n ≡ min (need l) budget → (d : ℕ) (u : Tree) → IsPart l (tree_of l) 0 d u → is_judged l n d (root u) ≡ true
-        → is_undecided_line (line_of l (root u)) ≡ true → Good l claim (root u).lo
-    good claim c e d u i j h = (within_test (root u).lo l.top.lo l.top.hi (corner_in d u i).0 (corner_in d u i).1, early claim c) where
+        → is_undecided_line (line_of l (root u)) ≡ true → IsGood l claim (root u).lo
+    good claim c e d u i j h = (corner_in d u i, early claim c) where
       p : IsPoint l (root u) × (l.grade (root u).lo ≡ unsure)
       p = undecided l (root u) lawful (at_sound l lawful d u i) h
 
       is_pass_unsure : (g : Grade) → g ≡ unsure → is_pass g ≡ true → ⊥
       is_pass_unsure g x y = false≢true (sym (ap is_pass x) ∙ y)
 
-      early : (k : Claim) → IsClaim l budget k → is_early l k (root u).lo ≡ true
+      early : (k : Claim) → IsClaim l budget k → is_early l (cutoff_of k) (root u).lo ≡ true
       early (Match recipe) x =
           let all : n ≡ need l = omega (arith, e, x.0) in
           let late : is_before l recipe.items (root u).lo ≡ false = not_true _ (sym (match_part recipe.items x.1 d u i) ∙ subst (λ m. is_judged l m d (root u) ≡ true) all j) in
@@ -231,51 +216,43 @@ module _ (l : Land) (lawful : IsLawful l) where
     pub at_top : (W : List Span → List CertLine → Type 0) → W (root (tree_of l) ∷ []) (canonical_lines l n ++ []) → W (l.top ∷ []) (canonical_lines l n)
     at_top W w = subst (λ b. W (b ∷ []) (canonical_lines l n)) (whole_root l) (subst (λ xs. W (root (tree_of l) ∷ []) xs) (append-nil (canonical_lines l n)) w)
 
-    -- the recipe of the claim has a line that passes
-    marked : (claim : Claim) → IsClaim l budget claim → n ≡ min (need l) budget → unclaimed_failure l claim (corners is_pass_line (l.top ∷ []) (canonical_lines l n)) ≡ None
-    marked (Match recipe) c e =
+    -- the recipe of a match is of the grid, and has a line that passes
+    has_line : (claim : Claim) → IsClaim l budget claim → n ≡ min (need l) budget → HaveLines l is_pass_line (canonical_lines l n) (matched_of claim)
+    has_line (Match recipe) c e =
         let all : n ≡ need l = omega (arith, e, c.0) in
         let f = first_is recipe.items c.1 in
-        let own = match_leaf l lawful recipe.items f.grid f.matches in
-        let late : is_before l recipe.items own.box.lo ≡ false = subst (λ r. is_before l recipe.items r ≡ false) (sym own.corner) (never_before_itself l recipe.items) in
-        let judged : is_judged l n own.depth own.box ≡ true = subst (λ m. is_judged l m own.depth own.box ≡ true) (sym all) (match_part recipe.items c.1 own.depth (leaf own.box) own.part ∙ ap not late) in
-        let there = mark l (is_judged l n) is_pass_line own.depth (leaf own.box) judged own.line (tree_of l) 0 (whole l lawful) own.part
-        (λ d u i p. judged_above l lawful n d own.depth u (leaf own.box) i p judged) [] [] in
-        let listed_ = at_top (λ bs xs. is_listed (corners is_pass_line bs xs) own.box.lo ≡ true) there in
-        ap (λ b. if b then None else Some (2, WrongList)) (subst (λ r. is_listed (corners is_pass_line (l.top ∷ []) (canonical_lines l n)) r ≡ true) own.corner listed_)
-    marked NoMatch c e = refl
-    marked (Floor cost) c e = refl
-
-    claim_fits : (claim : Claim) → IsClaim l budget claim → claim_failure l claim ≡ None
-    claim_fits (Match recipe) c =
-        let f = first_is recipe.items c.1 in
-        ap (λ b. if b then None else Some (2, WrongList)) (within_test recipe.items l.top.lo l.top.hi f.grid.0 f.grid.1)
-    claim_fits NoMatch c = refl
-    claim_fits (Floor cost) c = refl
-
-    listed_by : (rs : List (List ℕ)) (r : List ℕ) → Contains rs r → is_listed rs r ≡ true
-    listed_by rs r h = list_any-from_Contains nat_list_eq_equiv r rs h
+        let leaf_ = match_leaf l lawful recipe.items f.grid f.matches in
+        let late : is_before l recipe.items leaf_.box.lo ≡ false = subst (λ r. is_before l recipe.items r ≡ false) (sym leaf_.corner) (never_before_itself l recipe.items) in
+        let judged : is_judged l n leaf_.depth leaf_.box ≡ true = subst (λ m. is_judged l m leaf_.depth leaf_.box ≡ true) (sym all) (match_part recipe.items c.1 leaf_.depth (leaf leaf_.box) leaf_.part ∙ ap not late) in
+        let there = mark l (is_judged l n) is_pass_line leaf_.depth (leaf leaf_.box) judged leaf_.line (tree_of l) 0 (whole l lawful) leaf_.part
+        (λ d u i p. judged_above l lawful n d leaf_.depth u (leaf leaf_.box) i p judged) [] [] in
+        let passed = corners is_pass_line (l.top ∷ []) (canonical_lines l n) in
+        let listed_ = at_top (λ bs xs. is_listed (corners is_pass_line bs xs) leaf_.box.lo ≡ true) there in
+        record {
+          grid = All-from_recursion (λ r. IsWithin r l.top) (recipe.items ∷ []) (f.grid, tt);
+          rising = λ i j d a b. absurd (omega (arith, a, b));
+          each = All-from_recursion (Contains passed) (recipe.items ∷ []) (listed_of passed recipe.items (subst (λ r. is_listed passed r ≡ true) leaf_.corner listed_), tt);
+        }
+    has_line NoMatch c e = none_passing
+    has_line (Floor cost) c e = none_passing
 
     pub valid_at : (claim : Claim) → IsClaim l budget claim → n ≡ min (need l) budget → IsRising l listed
         → All (Contains (corners is_undecided_line (l.top ∷ []) (canonical_lines l n))) listed
         → All (Contains listed) (corners is_undecided_line (l.top ∷ []) (canonical_lines l n)) → IsValid l claim listed (canonical_lines l n)
     valid_at claim c e rising each every =
-        let corners_good = at_top (λ bs xs. AllByRecursion (Good l claim) (corners is_undecided_line bs xs))
-        (corners_are l (is_judged l n) (Good l claim) is_undecided_line refl (tree_of l) 0 (whole l lawful) (good claim c e) [] [] tt) in
-        let all_good = All-from_recursion (Good l claim) (corners is_undecided_line (l.top ∷ []) (canonical_lines l n)) corners_good in
-        let listed_good = All-weaker (Contains (corners is_undecided_line (l.top ∷ []) (canonical_lines l n))) (Good l claim) (λ r h. All-contains (Good l claim) (corners is_undecided_line (l.top ∷ []) (canonical_lines l n)) r all_good h) listed each in
-        let there = All-weaker (Contains listed) (λ r. is_listed listed r ≡ true) (λ r h. listed_by listed r h) (corners is_undecided_line (l.top ∷ []) (canonical_lines l n)) every in
-        let back = All-weaker (Contains (corners is_undecided_line (l.top ∷ []) (canonical_lines l n))) (λ r. is_listed (corners is_undecided_line (l.top ∷ []) (canonical_lines l n)) r ≡ true) (λ r h. listed_by (corners is_undecided_line (l.top ∷ []) (canonical_lines l n)) r h) listed each in
-        let one = claim_fits claim c in
-        let two = list_holds l claim 4 listed rising (recursion_from_All (Good l claim) listed listed_good) in
-        let three = at_top (λ bs xs. AllByRecursion (λ r. is_listed listed r ≡ true) (corners is_undecided_line bs xs) → (k : ℕ) → line_failure l claim listed k bs xs ≡ None)
-        (walks l (is_judged l n) lawful claim listed (tree_of l) 0 (whole l lawful) (fits claim c e) [] [] (λ a k. refl))
-        (recursion_from_All (λ r. is_listed listed r ≡ true) (corners is_undecided_line (l.top ∷ []) (canonical_lines l n)) there) (4 + length listed) in
-        let four = marks_hold l (corners is_undecided_line (l.top ∷ []) (canonical_lines l n)) 4 listed (recursion_from_All (λ r. is_listed (corners is_undecided_line (l.top ∷ []) (canonical_lines l n)) r ≡ true) listed back) in
-        let five = marked claim c e in
+        let undecided_ = corners is_undecided_line (l.top ∷ []) (canonical_lines l n) in
+        let all_good = All-from_recursion (IsGood l claim) undecided_ (at_top (λ bs xs. AllByRecursion (IsGood l claim) (corners is_undecided_line bs xs))
+        (corners_are l (is_judged l n) (IsGood l claim) is_undecided_line refl (tree_of l) 0 (whole l lawful) (good claim c e) [] [] tt)) in
+        let listed_good = All-weaker (Contains undecided_) (IsGood l claim) (λ r h. All-contains (IsGood l claim) undecided_ r all_good h) listed each in
+        let there = All-weaker (Contains listed) (λ r. is_listed listed r ≡ true) (λ r h. listed_by listed r h) undecided_ every in
         record {
           whole = at_top (λ bs xs. are_trees (length bs) xs ≡ true) (one_tree l (is_judged l n) (tree_of l) 0 (whole l lawful) [] [] refl);
-          holds = λ i. or_next (one i) (or_next (two i) (or_next (three i) (or_next (four i) (five i))));
+          hold = at_top (λ bs xs. AllByRecursion (λ r. is_listed listed r ≡ true) (corners is_undecided_line bs xs) → AllHold l (cutoff_of claim) (matched_of claim) listed bs xs)
+              (walks l (is_judged l n) lawful (cutoff_of claim) (matched_of claim) listed (tree_of l) 0 (whole l lawful) (fits claim c e) [] [] (λ a. tt))
+              (recursion_from_All (λ r. is_listed listed r ≡ true) undecided_ there);
+          passing = has_line claim c e;
+          undecided = record { grid = All-weaker (IsGood l claim) (λ r. IsWithin r l.top) (λ r h. h.0) listed listed_good; rising = rising; each = each };
+          early = All-weaker (IsGood l claim) (λ r. is_early l (cutoff_of claim) r ≡ true) (λ r h. h.1) listed listed_good;
         }
 
 pub canonical_is_valid : (l : Land) → CanonicalIsValid l

@@ -6,17 +6,18 @@ use Rattle.std.proofs.lemmas.Bool.{false≢true, or_left, or_right, true≢false
 use Rattle.std.proofs.lemmas.Slice.Eq.{bytes_eq-Decides}
 use Rattle.box_specs.specs.declared.certificate.CertLine.{CertLine}
 use Rattle.box_specs.specs.declared.certificate.CertLine.TheVariants.{Dear, Fail, Limit, Pass, Split, Undecided}
-use Rattle.box_specs.specs.declared.certificate.Claim.{Claim}
-use Rattle.box_specs.specs.declared.certificate.Why.TheVariants.{BadSplit, NotDear, NotFailing, NotLimit, NotPassing, NotPoint, NotUndecided, WrongList}
+use Rattle.box_specs.specs.declared.certificate.Cutoff.{Cutoff}
 use Rattle.box_specs.specs.Answer.{is_match, is_pass}
 use Rattle.box_specs.specs.Canonical.{IsPart, line_by, line_of, lines}
-use Rattle.box_specs.specs.Landscape.{Grade, IsLawful, Land, fails, first_from, is_admitted, is_final, judged_by, light_of, limit_of, passes, unsure}
+use Rattle.box_specs.specs.Landscape.{Grade, IsLawful, Land, fails, first_from, is_admitted, is_final, judged_by, light_of, limit_of, passes, unsure, IsSound}
 use Rattle.box_specs.specs.Span.{Span, is_single, same_steps}
 use Rattle.box_specs.specs.Splits.{CutAt, cut_of, lower_half, upper_half}
 use Rattle.box_specs.specs.Tree.{Tree, fork, leaf, root}
-use Rattle.box_specs.specs.Validity.{after, are_trees, at_line, corners, is_claimed, is_dear, is_listed, is_pass_line, is_undecided_line, is_unsure, line_failure, line_fault, or_next, splits, unless}
+use Rattle.box_specs.specs.Validity.{AllHold, after, are_trees, corners, holds, is_dear, is_listed, is_pass_line, is_undecided_line, is_unsure, splits}
 use Rattle.box_specs.proofs.Cuts.{rule_fits}
-use Rattle.box_search.proofs.Trees.{IsSound, IsSoundTree, corner_within, part_root, single_is, sound_of}
+use Rattle.box_search.specs.Trees.{IsSoundTree}
+use Rattle.box_search.proofs.Trees.{part_root, single_is, sound_of}
+use Rattle.box_specs.proofs.Spans.{corner_within}
 
 -- a line that does not split its box
 abbrev pub is_end : CertLine → Bool
@@ -88,7 +89,7 @@ module _ (l : Land) where
   -- the recipe of such a box inside the whole does not have the grade `fails`
   never : (b : Span) → IsLawful l → IsSound l b → IsPoint b → l.grade b.lo ≡ fails → ⊥
   never b lawful s p g =
-      let within = corner_within l b l.top s.box s.inside in
+      let within = corner_within b l.top s.box s.inside in
       let shut = (lawful.own b.lo within p.admitted).1 g in
       false≢true (sym (ap (λ c. is_some (light_of l c)) (single_is b p.alone) ∙ ap is_some p.no_light) ∙ shut)
 
@@ -123,29 +124,28 @@ module _ (l : Land) where
     go rest true e f = subst (λ j. test j ≡ true) (some_is n k f) e
     go rest false e f = rest f
 
-  module _ (lawful : IsLawful l) (claim : Claim) (listed : List (List ℕ)) where
-    -- the check of a line finds no fault, provided that its recipe is listed where the line is
-    -- undecided
+  module _ (lawful : IsLawful l) (cutoff : Cutoff) (matched listed : List (List ℕ)) where
+    -- a line holds, provided that its recipe is listed where the line is undecided
     abbrev HoldsAt : Span → CertLine → Type 0
-    HoldsAt b x = (is_undecided_line x ≡ true → is_listed listed b.lo ≡ true) → line_fault l claim listed b x ≡ None
+    HoldsAt b x = (is_undecided_line x ≡ true → is_listed listed b.lo ≡ true) → holds l cutoff matched listed b x ≡ true
 
-    judged_holds : (b : Span) → IsSound l b → (is_pass_line (line_of l b) ≡ true → is_claimed claim b.lo ≡ true) → HoldsAt b (line_of l b)
+    judged_holds : (b : Span) → IsSound l b → (is_pass_line (line_of l b) ≡ true → is_listed matched b.lo ≡ true) → HoldsAt b (line_of l b)
     judged_holds b s = go (limit_of l b) (light_of l b) (is_single b) (l.grade b.lo) refl refl refl refl where
       go : (x y : Option ℕ) (t : Bool) (g : Grade) → limit_of l b ≡ x → light_of l b ≡ y → is_single b ≡ t → l.grade b.lo ≡ g
-          → (is_pass_line (line_by (judged_by l x y t g) (cut_of b)) ≡ true → is_claimed claim b.lo ≡ true) → HoldsAt b (line_by (judged_by l x y t g) (cut_of b))
-      go (Some k) y t g e f i j p u = ap (λ c. unless c NotLimit None) (found_from (λ n. l.excluded n b) 1 5 k e)
-      go None (Some k) t g e f i j p u = ap (λ c. unless c NotFailing None) (found_from (λ n. l.failing n b) 1 l.lights k f)
+          → (is_pass_line (line_by (judged_by l x y t g) (cut_of b)) ≡ true → is_listed matched b.lo ≡ true) → HoldsAt b (line_by (judged_by l x y t g) (cut_of b))
+      go (Some k) y t g e f i j p u = found_from (λ n. l.excluded n b) 1 5 k e
+      go None (Some k) t g e f i j p u = found_from (λ n. l.failing n b) 1 l.lights k f
       go None None false g e f i j p u =
-          ap (λ n. unless (splits b n (cut_of b).mid) BadSplit None) (add-one (cut_of b).dye) ∙ ap (λ c. unless c BadSplit None) (rule_fits b s.box i)
+          ap (λ n. splits b n (cut_of b).mid) (add-one (cut_of b).dye) ∙ rule_fits b s.box i
       go None None true passes e f i j p u =
           let match : is_match l b.lo ≡ true = λ k. own_limit b i e k && is_pass (j k) in
           let claimed = p refl in
-          λ k. unless (i k) NotPoint (unless (match k) NotPassing (unless (claimed k) WrongList None))
+          λ k. i k && match k && claimed k
       go None None true fails e f i j p u = absurd (never b lawful s (record { alone = i; admitted = own_limit b i e; no_light = f }) j)
       go None None true unsure e f i j p u =
           let open_ : is_admitted l b.lo && is_unsure (l.grade b.lo) ≡ true = λ k. own_limit b i e k && is_unsure (j k) in
           let there = u refl in
-          λ k. unless (i k) NotPoint (unless (open_ k) NotUndecided (unless (there k) WrongList None))
+          λ k. i k && open_ k && there k
 
 -- Induction over the lines of a tree, the last line first: a property of the lines so far holds of
 -- all lines where it goes on to hold as each line is put before them
@@ -279,26 +279,26 @@ module _ (l : Land) (judged : ℕ → Span → Bool) where
           go low upper true g (inr (inl q)) = down (low q)
           go low upper true g (inr (inr q)) = down (high (upper q))
 
-  -- the check of the lines finds no fault
-  module _ (lawful : IsLawful l) (claim : Claim) (listed : List (List ℕ)) where
+  -- all lines hold
+  module _ (lawful : IsLawful l) (cutoff : Cutoff) (matched listed : List (List ℕ)) where
     abbrev Walks : List Span → List CertLine → Type 0
-    Walks bs xs = AllByRecursion (λ r. is_listed listed r ≡ true) (corners is_undecided_line bs xs) → (n : ℕ) → line_failure l claim listed n bs xs ≡ None
+    Walks bs xs = AllByRecursion (λ r. is_listed listed r ≡ true) (corners is_undecided_line bs xs) → AllHold l cutoff matched listed bs xs
 
-    -- what the claim demands of a part: that it is too dear if it was not judged, and is the
-    -- claimed recipe if it passes
+    -- what is asked of a part: that it is too dear if it was not judged, and that its recipe is
+    -- matched if it passes
     pub record Fits (d : ℕ) (b : Span) : Type 0 where
-      pub dear : judged d b ≡ false → is_dear l claim listed claim b ≡ true
-      pub passed : judged d b ≡ true → is_pass_line (line_of l b) ≡ true → is_claimed claim b.lo ≡ true
+      pub dear : judged d b ≡ false → is_dear l cutoff b ≡ true
+      pub passed : judged d b ≡ true → is_pass_line (line_of l b) ≡ true → is_listed matched b.lo ≡ true
 
-    walk_on : (b : Span) (bs : List Span) (x : CertLine) (xs : List CertLine) → HoldsAt l lawful claim listed b x → Walks (after b bs x) xs → Walks (b ∷ bs) (x ∷ xs)
-    walk_on b bs x xs holds rest all n = go (is_undecided_line x) refl all where
+    walk_on : (b : Span) (bs : List Span) (x : CertLine) (xs : List CertLine) → HoldsAt l lawful cutoff matched listed b x → Walks (after b bs x) xs → Walks (b ∷ bs) (x ∷ xs)
+    walk_on b bs x xs own_holds rest all = go (is_undecided_line x) refl all where
       on : (is_undecided_line x ≡ true → is_listed listed b.lo ≡ true) → AllByRecursion (λ r. is_listed listed r ≡ true) (corners is_undecided_line (after b bs x) xs)
-          → line_failure l claim listed n (b ∷ bs) (x ∷ xs) ≡ None
-      on u v = ap (λ o. or_next (at_line n o) (line_failure l claim listed (n + 1) (after b bs x) xs)) (holds u) ∙ rest v (n + 1)
+          → AllHold l cutoff matched listed (b ∷ bs) (x ∷ xs)
+      on u v = (own_holds u, rest v)
 
       go : (c : Bool) → is_undecided_line x ≡ c
           → AllByRecursion (λ r. is_listed listed r ≡ true) (if c then b.lo ∷ corners is_undecided_line (after b bs x) xs else corners is_undecided_line (after b bs x) xs)
-          → line_failure l claim listed n (b ∷ bs) (x ∷ xs) ≡ None
+          → AllHold l cutoff matched listed (b ∷ bs) (x ∷ xs)
       go true e v = on (λ _. v.0) v.1
       go false e v = on (λ f. absurd (false≢true (sym e ∙ f))) v
 
@@ -306,7 +306,7 @@ module _ (l : Land) (judged : ℕ → Span → Bool) where
         → Walks (root t ∷ bs) (lines l judged k t ++ xs)
     walks t k i h bs xs w = each_line Walks t k step t k i (λ d u p. p) bs xs w where
       step : (d : ℕ) (u : Tree) → IsPart l t k d u → IsSoundTree l u → (cs : List Span) (ys : List CertLine) → Walks (after (root u) cs (own d (root u))) ys → Walks (root u ∷ cs) (own d (root u) ∷ ys)
-      step d u p j cs ys = walk_on (root u) cs (own d (root u)) ys (holds (judged d (root u)) refl) where
-        holds : (c : Bool) → judged d (root u) ≡ c → HoldsAt l lawful claim listed (root u) (if c then line_of l (root u) else Dear)
-        holds true e = judged_holds l lawful claim listed (root u) (sound_of l u j) ((h d u p).passed e)
-        holds false e = λ _. ap (λ c. unless c NotDear None) ((h d u p).dear e)
+      step d u p j cs ys = walk_on (root u) cs (own d (root u)) ys (line_holds (judged d (root u)) refl) where
+        line_holds : (c : Bool) → judged d (root u) ≡ c → HoldsAt l lawful cutoff matched listed (root u) (if c then line_of l (root u) else Dear)
+        line_holds true e = judged_holds l lawful cutoff matched listed (root u) (sound_of l u j) ((h d u p).passed e)
+        line_holds false e = λ _. (h d u p).dear e

@@ -9,7 +9,9 @@ use Rattle.box_specs.specs.Landscape.{Land}
 use Rattle.box_specs.specs.Span.{Span}
 use Rattle.box_specs.specs.Tree.{Spot, Tree, root, spot_of, tree_of}
 use Rattle.box_search.specs.Hand.{halves_of}
+use Rattle.box_search.specs.Nodes.{Shows}
 use Rattle.box_search.specs.declared.hand.Halves.{Halves}
+use Rattle.box_search.specs.declared.nodes.Node.{Node}
 
 abbrev pub is_open : Judged → Bool
 is_open (Limit k) = false
@@ -26,17 +28,18 @@ is_undecided Pass = false
 is_undecided Undecided = true
 
 -- the halves of a box that is judged open
-abbrev pub halves_by : Land → ℕ → Span → Judged → Option Halves
-halves_by l depth b judged = if is_open judged then Some (halves_of l depth b) else None
+abbrev pub halves_by : Land → ℕ → Span → ℕ → Judged → Option Halves
+halves_by l depth b next judged = if is_open judged then Some (halves_of l depth b next) else None
 
 -- the undecided recipes once the box is judged
 abbrev pub next_listed : Span → Judged → List (List ℕ) → List (List ℕ)
 next_listed b judged listed = if is_undecided judged then listed ++ b.lo ∷ [] else listed
 
--- what a search has found: with the canonical lines its claim and list are canonical, g has the
--- lines of exactly the judged boxes, and the listed recipes and the lines are few
-pub record IsFound (l : Land) (budget : ℕ) (claim : Claim) (listed : List (List ℕ)) (boxes : ℕ) (g : Spot → Option CertLine) : Type 0 where
+-- what a search has found: with the canonical lines its claim and list are canonical, the
+-- first node shows the tree with the lines of the judged boxes, and the listed recipes and the lines are few
+pub record IsFound (l : Land) (budget : ℕ) (claim : Claim) (listed : List (List ℕ)) (boxes : ℕ) (nodes : List Node) : Type 0 where
   pub canonical : IsCanonical l budget claim listed (canonical_lines l boxes) boxes
-  pub written : (e : ℕ) (v : Tree) → IsPart l (tree_of l) 0 e v → g (spot_of l e (root v)) ≡ (if is_judged l boxes e (root v) then Some (line_of l (root v)) else None)
+  pub shown : Shows l nodes (is_judged l boxes) 0 (tree_of l) 0
   pub few : length listed ≤ boxes
+  pub nodes_few : length nodes ≤ 2 * boxes + 1
   pub short : length (canonical_lines l boxes) ≤ 2 * boxes + 1

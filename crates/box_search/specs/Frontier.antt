@@ -3,7 +3,8 @@ use Rattle.std.specs.Prelude.{◌≡◌, ◌≤◌, not, ℕ, Bool, true, false,
 use Rattle.std.specs.List.{Contains}
 use Rattle.std.specs.Ordering.{is_eq, is_lt}
 use Rattle.box_specs.specs.declared.certificate.CertLine.{CertLine}
-use Rattle.box_specs.specs.Canonical.{IsPart, IsRising, line_of}
+use Rattle.box_specs.specs.Canonical.{IsPart, line_of}
+use Rattle.box_specs.specs.Order.{IsRising}
 use Rattle.box_specs.specs.Landscape.{Land}
 use Rattle.box_specs.specs.Span.{IsWithin, Span}
 use Rattle.box_specs.specs.Tree.{Spot, Tree, count, root, spot_cmp, spot_of, tree_of}

@@ -2,6 +2,7 @@ pub mod Answers
 pub mod Frontier
 pub mod Hand
 pub mod Laws
+pub mod Nodes
 pub mod Places
 pub mod Result
 pub mod Trees

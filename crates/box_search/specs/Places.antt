@@ -1,8 +1,7 @@
 -- The places of boxes, as the code keeps them.
-use Rattle.std.specs.Prelude.{ℕ, Option, List, map}
+use Rattle.std.specs.Prelude.{Option}
 use Rattle.std.specs.BTreeMap.{BTreeMap, get}
 use Rattle.std.specs.declared.cmp.Ordering.{Ordering}
-use Rattle.arrayvec.specs.ArrayVec.{ArrayVec}
 use Rattle.box_specs.specs.Tree.{Spot, spot_cmp}
 use Rattle.box_search.specs.declared.place.Place.{Place}
 
@@ -19,7 +18,3 @@ place_cmp a b = spot_cmp (spot a) (spot b)
 -- what a map has at a place
 abbrev pub at : {X : Type 0} → BTreeMap Place X → Spot → Option X
 at m z = get place_cmp m (place z)
-
--- recipes of the code as lists
-abbrev pub lists : List (ArrayVec ℕ) → List (List ℕ)
-lists recipes = map (λ steps. steps.items) recipes

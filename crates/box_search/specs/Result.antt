@@ -6,7 +6,8 @@ use Rattle.box_specs.specs.declared.certificate.Claim.{Claim}
 use Rattle.box_specs.specs.declared.certificate.Claim.TheVariants.{Floor, Match, NoMatch}
 use Rattle.box_specs.specs.Answer.{answer_of}
 use Rattle.box_specs.specs.Canonical.{canonical_lines}
-use Rattle.box_specs.specs.Landscape.{Land, is_before}
+use Rattle.box_specs.specs.Landscape.{Land}
+use Rattle.box_specs.specs.Order.{in_order}
 use Rattle.box_specs.specs.Span.{Span}
 use Rattle.box_specs.specs.Tree.{Tree, fork, leaf, need, rank, spot_of, tree_of}
 use Rattle.box_specs.specs.Validity.{corners, is_undecided_line}
@@ -49,22 +50,9 @@ module _ (l : Land) where
   abbrev pub claim_at : ℕ → Claim
   claim_at budget = if nat_le (need l) budget then answer_claim (answer_of l) else Floor (floor_at budget)
 
-  -- a rising list with one more recipe, in its order; unchanged where it already has that recipe
-  abbrev pub put_in : List ℕ → List (List ℕ) → List (List ℕ)
-  put_in steps [] = steps ∷ []
-  put_in steps (next ∷ rest) =
-      if is_before l steps next then steps ∷ next ∷ rest
-      else if is_before l next steps then next ∷ put_in steps rest
-      else next ∷ rest
-
-  -- recipes in their order, each of them once
-  abbrev pub in_order : List (List ℕ) → List (List ℕ)
-  in_order [] = []
-  in_order (steps ∷ rest) = put_in steps (in_order rest)
-
   -- the recipes of the undecided lines, in their order and each of them once
   abbrev pub undecided_of : List CertLine → List (List ℕ)
-  undecided_of lines = in_order (corners is_undecided_line (l.top ∷ []) lines)
+  undecided_of lines = in_order l (corners is_undecided_line (l.top ∷ []) lines)
 
   abbrev pub result_of : Claim → ℕ → SearchResult
   result_of claim boxes =

@@ -3,24 +3,25 @@
 ghost use Rattle.std.specs.Prelude.{◌≡◌, ◌+◌, ◌≤◌, IfOk, Bool, true};
 ghost use Rattle.box_specs.specs.Validity.{is_pass_line};
 ghost use Rattle.box_search.specs.Answers.{IsFound};
-ghost use Rattle.box_search.specs.Places.{at, lists};
+ghost use Rattle.box_specs.specs.Span.{lists};
 
-use crate::hand::take_first;
-use crate::place::{Place, place_of};
+use crate::hand::{Waiting, take_first};
+use crate::nodes::{Node, unjudged};
+use crate::place::place_of;
 use crate::turn::turn;
-use box_core::{BoxR, CertLine, Claim, Landscape};
+use box_core::{CertLine, Claim, Landscape};
 use price_grid::{Steps, copy_of};
 use std::alloc::{AllocError, Global};
 use std::collections::BTreeMap;
 
 /// What a search has found: the claim, how many boxes were judged, the undecided recipes, and the
-/// lines of the judged boxes.
+/// nodes of the tree.
 #[derive(Drop)]
 pub(crate) struct Found {
     pub claim: Claim,
     pub boxes: u32,
     pub undecided: Vec<Steps>,
-    pub done: BTreeMap<Place, CertLine>,
+    pub nodes: Vec<Node>,
 }
 
 /// Whether a line says that a recipe passes.
@@ -44,7 +45,7 @@ pub(crate) fn find<L: Landscape>(
 ) -> Result<Found, AllocError>
     requires { budget ≤ 1000000 }
     ensures found { IfOk result (λ r. IsFound (L.land land.now) budget r.claim
-        (lists r.undecided.items) r.boxes (at r.done)) }
+        (lists r.undecided.items) r.boxes r.nodes.items) }
     ensures judged { IfOk result (λ r. L.judged_count land.now meter.new
         ≤ L.judged_count land.now meter.old + r.boxes) }
     ensures at_most { L.judged_count land.now meter.new
@@ -52,34 +53,34 @@ pub(crate) fn find<L: Landscape>(
 {
     let top = land.top();
     let mut waiting = BTreeMap::new(alloc);
-    let mut done = BTreeMap::new(alloc);
+    let mut nodes = vec![in alloc; unjudged()]?;
     let mut undecided = Vec::new(alloc);
     let first = place_of(land, &top, 0);
-    let mut hand = Some((first, top));
+    let mut hand = Some((first, Waiting { part: top, node: 0 }));
     for boxes in 0..budget {
-        let Some((place, part)) = take_first(hand, &mut waiting) else {
+        let Some((place, taken)) = take_first(hand, &mut waiting) else {
             return Ok(Found {
                 claim: Claim::NoMatch,
                 boxes,
                 undecided,
-                done,
+                nodes,
             });
         };
         let (line, lower) = turn(
             land,
             &mut waiting,
-            &mut done,
+            &mut nodes,
             &mut undecided,
-            place,
-            &part,
+            place.depth,
+            &taken,
             meter,
         )?;
         if is_pass(line) {
             return Ok(Found {
-                claim: Claim::Match(copy_of(&part.lo)),
+                claim: Claim::Match(copy_of(&taken.part.lo)),
                 boxes: boxes + 1,
                 undecided,
-                done,
+                nodes,
             });
         }
         hand = lower;
@@ -92,6 +93,6 @@ pub(crate) fn find<L: Landscape>(
         claim,
         boxes: budget,
         undecided,
-        done,
+        nodes,
     })
 }

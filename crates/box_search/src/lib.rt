@@ -5,6 +5,7 @@ mod emit;
 mod find;
 mod hand;
 pub mod laws;
+mod nodes;
 mod outcome;
 mod place;
 mod turn;

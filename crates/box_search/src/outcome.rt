@@ -40,15 +40,15 @@ pub fn search<L: Landscape>(
         ≤ L.judged_count land.now meter.old + budget }
 {
     let found = find(alloc, land, budget, meter)?;
-    let top = land.top();
-    let mut lines = Vec::new(alloc);
-    emit(land, &found.done, &top, 0, &mut lines)?;
+    // For its clause that the landscape is lawful.
+    let _top = land.top();
     let Found {
         claim,
         boxes,
         undecided,
-        done: _,
+        nodes,
     } = found;
+    let lines = emit(alloc, land, nodes.as_slice(), boxes)?;
     let cert = Cert {
         claim,
         undecided: StepsList::of(undecided),

@@ -1,33 +1,36 @@
 //! Judging one box.
 
-ghost use Rattle.std.specs.Prelude.{◌≡◌, ◌<◌, ◌^◌, IfOk, OnErr, OnOk, false};
+ghost use Rattle.std.specs.Prelude.{◌≡◌, ◌<◌, ◌≤◌, ◌^◌, IfOk, OnErr, OnOk, false, length};
 ghost use Rattle.box_specs.specs.Canonical.{line_by, line_of};
 ghost use Rattle.box_specs.specs.declared.judged.Judged.TheVariants.{StillOpen};
 ghost use Rattle.box_specs.specs.Landscape.{judgement};
-ghost use Rattle.box_specs.specs.Span.{IsBox, IsInside, is_single};
+ghost use Rattle.box_specs.specs.Span.{IsBox, IsInside, is_single, lists};
 ghost use Rattle.box_specs.specs.Splits.{cut_of};
 ghost use Rattle.box_specs.specs.Tree.{Spot};
 ghost use Rattle.box_core.specs.Meter.{CountsOne};
-ghost use Rattle.box_search.specs.Answers.{halves_by, next_listed};
-ghost use Rattle.box_search.specs.Frontier.{with_entry};
+ghost use Rattle.box_search.specs.Answers.{halves_by, is_open, next_listed};
 ghost use Rattle.box_search.specs.Hand.{halves_of, lower_of, with_upper};
-ghost use Rattle.box_search.specs.Places.{at, lists, spot};
+ghost use Rattle.box_search.specs.Nodes.{write_at};
+ghost use Rattle.box_search.specs.Places.{at};
 
-use crate::hand::{Halves, add_upper};
+use crate::hand::{Halves, Waiting, add_upper};
+use crate::nodes::{Node, write_node};
 use crate::place::{Place, place_of};
 use box_core::{BoxR, CertLine, Judged, Landscape, split};
 use price_grid::{Steps, copy_of};
 use std::alloc::AllocError;
 use std::collections::BTreeMap;
 
-/// The split line of a box of several recipes, and its halves at their places.
-fn split_open<L: Landscape>(land: &L, part: &BoxR, depth: u64) -> (CertLine, Halves)
+/// The split line of a box of several recipes, and its halves at their places, with nodes from
+/// `next` on.
+fn split_open<L: Landscape>(land: &L, part: &BoxR, depth: u64, next: u32) -> (CertLine, Halves)
     requires boxed { IsBox part.now }
     requires inside { IsInside part.now (L.land land.now).top }
     requires several { is_single part.now ≡ false }
     requires depth { depth < 2 ^ 32 }
+    requires next { next < 2 ^ 31 }
     ensures line { result.0 ≡ line_by StillOpen (cut_of part.now) }
-    ensures halves { result.1 ≡ halves_of (L.land land.now) depth part.now }
+    ensures halves { result.1 ≡ halves_of (L.land land.now) depth part.now next }
 {
     let cut = split(part);
     let line = CertLine::Split {
@@ -37,10 +40,29 @@ fn split_open<L: Landscape>(land: &L, part: &BoxR, depth: u64) -> (CertLine, Hal
     let lower_place = place_of(land, &cut.left, depth + 1);
     let upper_place = place_of(land, &cut.right, depth + 1);
     let halves = Halves {
-        lower: (lower_place, cut.left),
-        upper: (upper_place, cut.right),
+        lower: (
+            lower_place,
+            Waiting {
+                part: cut.left,
+                node: next,
+            },
+        ),
+        upper: (
+            upper_place,
+            Waiting {
+                part: cut.right,
+                node: next + 1,
+            },
+        ),
     };
     (line, halves)
+}
+
+/// Whether a box is judged open.
+fn is_open(judged: Judged) -> bool
+    ensures { result ≡ is_open judged }
+{
+    judged == Judged::StillOpen
 }
 
 /// The line of a box that was judged, and the halves of an open one. An undecided recipe is
@@ -50,15 +72,17 @@ fn record_judgement<L: Landscape>(
     undecided: &mut Vec<Steps>,
     part: &BoxR,
     depth: u64,
+    next: u32,
     judged: Judged,
 ) -> Result<(CertLine, Option<Halves>), AllocError>
     requires boxed { IsBox part.now }
     requires inside { IsInside part.now (L.land land.now).top }
     requires judged { judged ≡ judgement (L.land land.now) part.now }
     requires depth { depth < 2 ^ 32 }
+    requires next { next < 2 ^ 31 }
     ensures line { IfOk result (λ r. r.0 ≡ line_by judged (cut_of part.now)) }
     ensures halves { IfOk result (λ r. r.1
-        ≡ halves_by (L.land land.now) depth part.now judged) }
+        ≡ halves_by (L.land land.now) depth part.now next judged) }
     ensures listed { OnOk result (lists undecided.new.items
         ≡ next_listed part.now judged (lists undecided.old.items)) }
 {
@@ -66,7 +90,7 @@ fn record_judgement<L: Landscape>(
         Judged::Limit(k) => Ok((CertLine::Limit(k), None)),
         Judged::Fail(j) => Ok((CertLine::Fail(j), None)),
         Judged::StillOpen => {
-            let (line, halves) = split_open(land, part, depth);
+            let (line, halves) = split_open(land, part, depth, next);
             Ok((line, Some(halves)))
         }
         Judged::Pass => Ok((CertLine::Pass, None)),
@@ -77,41 +101,44 @@ fn record_judgement<L: Landscape>(
     }
 }
 
-/// Judges a box, and adds its line to `done`. Of an open one the upper half is added to `waiting`,
-/// and the lower one is returned. Where there is no memory, `waiting` is unchanged, but the line or
-/// the undecided recipe may have been added.
+/// Judges a box, and writes its line into its node. Of an open one the upper half is added to
+/// `waiting`, and the lower one is returned. Where there is no memory, `waiting` is unchanged, but
+/// the undecided recipe or nodes may have been added.
 pub(crate) fn turn<L: Landscape>(
     land: &L,
-    waiting: &mut BTreeMap<Place, BoxR>,
-    done: &mut BTreeMap<Place, CertLine>,
+    waiting: &mut BTreeMap<Place, Waiting>,
+    nodes: &mut Vec<Node>,
     undecided: &mut Vec<Steps>,
-    place: Place,
-    part: &BoxR,
+    depth: u64,
+    taken: &Waiting,
     meter: &mut L::Meter,
-) -> Result<(CertLine, Option<(Place, BoxR)>), AllocError>
-    requires boxed { IsBox part.now }
-    requires inside { IsInside part.now (L.land land.now).top }
-    requires depth { place.depth < 2 ^ 32 }
-    ensures line { IfOk result (λ r. r.0 ≡ line_of (L.land land.now) part.now) }
-    ensures hand { let judged = judgement (L.land land.now) part.now in
-        IfOk result (λ r. r.1
-        ≡ lower_of (halves_by (L.land land.now) place.depth part.now judged)) }
-    ensures waits { let judged = judgement (L.land land.now) part.now in
-        OnOk result ((z : Spot) → at waiting.new z
-        ≡ with_upper (halves_by (L.land land.now) place.depth part.now judged)
-        (at waiting.old) z) }
+) -> Result<(CertLine, Option<(Place, Waiting)>), AllocError>
+    requires boxed { IsBox taken.now.part }
+    requires inside { IsInside taken.now.part (L.land land.now).top }
+    requires depth { depth < 2 ^ 32 }
+    requires there { taken.now.node < length nodes.old.items }
+    requires few { length nodes.old.items ≤ 2000001 }
+    ensures line { IfOk result (λ r. r.0 ≡ line_of (L.land land.now) taken.now.part) }
+    ensures hand { let judged = judgement (L.land land.now) taken.now.part in
+        IfOk result (λ r. r.1 ≡ lower_of (halves_by (L.land land.now)
+        depth taken.now.part (length nodes.old.items) judged)) }
+    ensures waits { let judged = judgement (L.land land.now) taken.now.part in
+        OnOk result ((z : Spot) → at waiting.new z ≡ with_upper (halves_by (L.land land.now)
+        depth taken.now.part (length nodes.old.items) judged) (at waiting.old) z) }
     ensures unchanged { OnErr result ((z : Spot) → at waiting.new z ≡ at waiting.old z) }
-    ensures done { OnOk result ((z : Spot) → at done.new z
-        ≡ with_entry (spot place) (line_of (L.land land.now) part.now) (at done.old) z) }
+    ensures nodes { OnOk result (nodes.new.items ≡ write_at taken.now.node
+        (line_of (L.land land.now) taken.now.part)
+        (is_open (judgement (L.land land.now) taken.now.part)) nodes.old.items) }
     ensures listed { OnOk result (lists undecided.new.items
-        ≡ next_listed part.now (judgement (L.land land.now) part.now)
+        ≡ next_listed taken.now.part (judgement (L.land land.now) taken.now.part)
         (lists undecided.old.items)) }
     ensures judged { CountsOne
         (L.judged_count land.now meter.old) (L.judged_count land.now meter.new) }
 {
-    let judged = land.judge(part, meter);
-    let (line, halves) = record_judgement(land, undecided, part, place.depth, judged)?;
-    done.insert(place, line)?;
+    let judged = land.judge(&taken.part, meter);
+    let next = nodes.len() as u32;
+    let (line, halves) = record_judgement(land, undecided, &taken.part, depth, next, judged)?;
+    write_node(nodes, taken.node, line, is_open(judged))?;
     let lower = add_upper(waiting, halves)?;
     Ok((line, lower))
 }

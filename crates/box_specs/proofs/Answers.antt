@@ -1,16 +1,20 @@
--- The answer is the first recipe that is admitted and passes.
+-- The answer is the first recipe that is admitted and passes, and the first of those in their
+-- order.
 use Rattle.std.proofs.Common.{◌≡◌, ◌+◌, ◌-◌, ◌<◌, ◌≤◌, ℕ, zero, suc, List, [], ◌∷◌, ◌++◌, Bool, true, false, map, if◌then◌else◌, refl, sym, ap, subst, ◌∙◌, ◌⊎◌, inl, inr, arith}
-use Rattle.std.specs.Prelude.{Option, Some, None}
+use Rattle.std.specs.Prelude.{Option, Some, None, cond}
+use Rattle.std.specs.List.{filter, slice_get}
 use Rattle.std.proofs.lemmas.Bool.{cases_lt, false≢true}
 use Rattle.price_grid.specs.Grid.{IsUpTo}
-use Rattle.box_specs.specs.Answer.{AnswerIsFirst, IsAnswer, all_recipes, answer_of, each_before, earlier, first_match, is_match, numbers_from, recipes_between}
+use Rattle.box_specs.specs.Answer.{AnswerIsFirst, FirstIsAnswer, IsAnswer, all_recipes, answer_of, each_before, earlier, first_match, is_match, numbers_from, recipes_between}
 use Rattle.std.specs.Cmp.{tied_itself, upto}
-use Rattle.std.specs.Ordering.{is_gt, is_lt, ordering_reverse}
+use Rattle.std.specs.Ordering.{is_gt, is_lt}
 use Rattle.std.specs.declared.cmp.Ordering.{Ordering}
 use Rattle.std.specs.declared.cmp.Ordering.TheVariants.{Equal, Greater, Less}
 use Rattle.price_grid.specs.Order.{KeyView, key_cmp}
 use Rattle.price_grid.proofs.CostLaws.{keys_are_ordered}
 use Rattle.box_specs.specs.Landscape.{Land, is_before, key_of}
+use Rattle.box_specs.specs.Order.{in_order, put_in}
+use Rattle.box_specs.proofs.Keys.{lt_turned, tied_keys}
 
 -- an item of a list
 abbrev pub IsIn : List ℕ → List (List ℕ) → Type 0
@@ -104,11 +108,6 @@ abbrev pub IsFirstOf : Land → List (List ℕ) → Option (List ℕ) → Type 0
 IsFirstOf l list None = (s : List ℕ) → IsIn s list → is_match l s ≡ false
 IsFirstOf l list (Some r) = IsFirst l list r
 
-lt_turned : (o : Ordering) → is_lt (ordering_reverse o) ≡ is_gt o
-lt_turned Less = refl
-lt_turned Equal = refl
-lt_turned Greater = refl
-
 module _ (l : Land) where
   abbrev K : List ℕ → KeyView
   K steps = key_of l steps
@@ -192,3 +191,25 @@ module _ (l : Land) where
       matches = h.matches;
       first = λ s w p. h.first s (all_listed s l.top.lo l.top.hi w.0 w.1) p;
     }
+
+  first_put : (s : List ℕ) (xs : List (List ℕ)) → slice_get (put_in l s xs) 0 ≡ earlier l s (slice_get xs 0)
+  first_put s [] = refl
+  first_put s (x ∷ xs) = go (is_before l s x) (is_before l x s) refl refl where
+    go : (p q : Bool) → is_before l s x ≡ p → is_before l x s ≡ q
+        → slice_get (if p then s ∷ x ∷ xs else if q then x ∷ put_in l s xs else x ∷ xs) 0 ≡ (if q then Some x else Some s)
+    go true true e f = absurd (false≢true (sym (not_both_before s x e) ∙ f))
+    go true false e f = refl
+    go false true e f = refl
+    go false false e f = ap Some (sym (tied_keys (K s) (K x) e f))
+
+  first_in_order : (xs : List (List ℕ)) → slice_get (in_order l (filter (is_match l) xs)) 0 ≡ first_match l xs
+  first_in_order [] = refl
+  first_in_order (s ∷ xs) = go (first_in_order xs) (is_match l s) where
+    go : slice_get (in_order l (filter (is_match l) xs)) 0 ≡ first_match l xs → (t : Bool)
+        → slice_get (in_order l (cond t (s ∷ filter (is_match l) xs) (filter (is_match l) xs))) 0 ≡ (if t then earlier l s (first_match l xs) else first_match l xs)
+    go rest true = first_put s (in_order l (filter (is_match l) xs)) ∙ ap (earlier l s) rest
+    go rest false = rest
+
+  -- the first match in order is the answer
+  pub first_is_answer : FirstIsAnswer l
+  first_is_answer = first_in_order (all_recipes l)

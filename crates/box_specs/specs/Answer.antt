@@ -1,6 +1,8 @@
 -- The answer: the first recipe, by cost and then by steps, that is admitted and passes, found in
--- the plain list of all.
+-- the plain list of all; and the k-th such recipe.
 use Rattle.std.specs.Prelude.{◌≡◌, ◌+◌, ◌-◌, ◌++◌, ◌&&◌, ℕ, zero, suc, Bool, true, false, Option, Some, None, List, [], ◌∷◌, map, if◌then◌else◌}
+use Rattle.std.specs.List.{filter, slice_get}
+use Rattle.box_specs.specs.Order.{in_order}
 use Rattle.box_specs.specs.Span.{IsBox, IsWithin}
 use Rattle.box_specs.specs.Landscape.{Grade, Land, fails, is_admitted, is_before, passes, unsure}
 
@@ -61,3 +63,15 @@ module _ (l : Land) where
   -- no such recipe
   abbrev pub AnswerIsFirst : Type 0
   AnswerIsFirst = IsBox l.top → IsAnswer answer_of
+
+  -- all recipes that are admitted and pass, in their order
+  abbrev pub matches : List (List ℕ)
+  matches = in_order l (filter is_match all_recipes)
+
+  -- the k-th of them, counted from 1
+  abbrev pub kth_match : ℕ → Option (List ℕ)
+  kth_match k = slice_get matches (k - 1)
+
+  -- the first of them is the answer
+  abbrev pub FirstIsAnswer : Type 0
+  FirstIsAnswer = kth_match 1 ≡ answer_of

@@ -1,6 +1,6 @@
 -- The certificate of the search.
 use Rattle.std.specs.Prelude.{◌≡◌, ◌⊎◌, ◌+◌, ◌<◌, ◌≤◌, ℕ, All, Bool, true, min, nat_lt, Some, None, List, [], ◌∷◌, ◌++◌, if◌then◌else◌}
-use Rattle.std.specs.List.{AllPairs, Contains}
+use Rattle.std.specs.List.{Contains}
 use Rattle.box_specs.specs.declared.certificate.CertLine.{CertLine}
 use Rattle.box_specs.specs.declared.certificate.CertLine.TheVariants as line
 use Rattle.box_specs.specs.declared.certificate.Claim.{Claim}
@@ -8,7 +8,8 @@ use Rattle.box_specs.specs.declared.certificate.Claim.TheVariants.{Floor, Match,
 use Rattle.box_specs.specs.declared.judged.Judged.{Judged}
 use Rattle.box_specs.specs.declared.judged.Judged.TheVariants.{Fail, Limit, Pass, StillOpen, Undecided}
 use Rattle.box_specs.specs.Answer.{answer_of}
-use Rattle.box_specs.specs.Landscape.{Land, is_before, judgement}
+use Rattle.box_specs.specs.Landscape.{Land, judgement}
+use Rattle.box_specs.specs.Order.{IsRising}
 use Rattle.box_specs.specs.Span.{Span}
 use Rattle.box_specs.specs.Splits.{CutAt, cut_of}
 use Rattle.box_specs.specs.Tree.{Tree, fork, leaf, need, rank, root, spot_of, tree_of}
@@ -54,10 +55,6 @@ module _ (l : Land) where
   IsClaim budget (Floor cost) =
       (budget < need l) × (d : ℕ) × (u : Tree) × IsPart (tree_of l) 0 d u × (rank l (spot_of l d (root u)) ≡ budget) × (cost ≡ l.cost (root u).lo)
 
-  -- the recipes are in rising order
-  abbrev pub IsRising : List (List ℕ) → Type 0
-  IsRising listed = AllPairs (λ a b. is_before l a b ≡ true) listed
-
   -- What a search of this budget ends with: it judges the boxes that are needed, or as many as the
   -- budget allows; the lines are those of the tree; and the recipes of its undecided lines are
   -- listed in their order
@@ -65,6 +62,6 @@ module _ (l : Land) where
     pub judged : boxes ≡ min (need l) budget
     pub claimed : IsClaim budget claim
     pub tree_is : tree ≡ canonical_lines boxes
-    pub rising : IsRising listed
+    pub rising : IsRising l listed
     pub each : All (Contains (corners is_undecided_line (l.top ∷ []) tree)) listed
     pub every : All (Contains listed) (corners is_undecided_line (l.top ∷ []) tree)

@@ -70,6 +70,11 @@ module _ (l : Land) where
   abbrev pub judgement : Span → Judged
   judgement b = judged_by (limit_of b) (light_of b) (is_single b) (l.grade b.lo)
 
+  -- a box of recipes of the landscape
+  pub record IsSound (b : Span) : Type 0 where
+    pub box : IsBox b
+    pub inside : IsInside b l.top
+
   -- The laws of a landscape. A box that is shut has no admitted recipe that passes or is undecided;
   -- a recipe with more steps costs no less; and on the box of one admitted recipe some light fails
   -- exactly where the verdict is a fail

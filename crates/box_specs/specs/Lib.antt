@@ -2,6 +2,7 @@ pub mod Answer
 pub mod Canonical
 pub mod Landscape
 pub mod Meaning
+pub mod Order
 pub mod Span
 pub mod Splits
 pub mod Tree

@@ -1,7 +1,10 @@
 -- What a valid certificate means, over the plain list of recipes.
-use Rattle.std.specs.Prelude.{◌≡◌, ◌⊎◌, ◌<◌, ℕ, true, List, All}
+use Rattle.std.specs.Prelude.{◌≡◌, ◌⊎◌, ◌<◌, ℕ, true, false, List, All}
 use Rattle.box_specs.specs.declared.certificate.Claim.{Claim}
 use Rattle.box_specs.specs.declared.certificate.Claim.TheVariants.{Floor, Match, NoMatch}
+use Rattle.box_specs.specs.declared.certificate.Cutoff.{Cutoff}
+use Rattle.box_specs.specs.declared.certificate.Cutoff.TheVariants.{After, From, Never}
+use Rattle.box_specs.specs.Answer.{is_match}
 use Rattle.box_specs.specs.Landscape.{Land, fails, is_admitted, is_before, passes, unsure}
 use Rattle.box_specs.specs.Span.{IsWithin}
 use Rattle.box_specs.specs.Validity.{is_listed}
@@ -32,3 +35,23 @@ module _ (l : Land) (listed : List (List ℕ)) where
   pub record Means (claim : Claim) : Type 0 where
     pub claimed : MeansClaim claim
     pub unsure : All IsUnsure listed
+
+module _ (l : Land) where
+  -- a recipe that a cutoff does not leave out
+  abbrev pub IsKept : Cutoff → List ℕ → Type 0
+  IsKept (After recipe) steps = is_before l recipe.items steps ≡ false
+  IsKept (From cost) steps = l.cost steps < cost
+  IsKept Never steps = Unit {0}
+
+  -- a recipe of the grid that is admitted and passes, as each matched one must be
+  pub record IsPassing (steps : List ℕ) : Type 0 where
+    pub grid : IsWithin steps l.top
+    pub matches : is_match l steps ≡ true
+
+  -- What a certificate means that is valid for lists of recipes that pass and that are undecided:
+  -- every admitted recipe that the cutoff keeps fails or is in one of the lists, and the recipes of
+  -- the lists are as these say
+  pub record MeansFor (cutoff : Cutoff) (matched listed : List (List ℕ)) : Type 0 where
+    pub settled : SettlesAll l listed (λ steps. IsKept cutoff steps × (is_listed matched steps ≡ false))
+    pub passing : All IsPassing matched
+    pub unsure : All (IsUnsure l listed) listed

@@ -1,6 +1,7 @@
 -- Boxes of recipes.
-use Rattle.std.specs.Prelude.{◌≤◌, ℕ, Bool, List, length}
+use Rattle.std.specs.Prelude.{◌≤◌, ℕ, Bool, List, length, map}
 use Rattle.std.specs.Str.{bytes_eq}
+use Rattle.arrayvec.specs.ArrayVec.{ArrayVec}
 use Rattle.price_grid.specs.Grid.{IsUpTo}
 
 -- all recipes from a lower corner to an upper one, dye by dye
@@ -35,3 +36,7 @@ is_single b = same_steps b.lo b.hi
 
 abbrev pub single : List ℕ → Span
 single steps = record { lo = steps; hi = steps }
+
+-- recipes of the code as lists
+abbrev pub lists : List (ArrayVec ℕ) → List (List ℕ)
+lists recipes = map (λ steps. steps.items) recipes

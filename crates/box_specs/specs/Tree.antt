@@ -58,15 +58,19 @@ module _ (l : Land) where
   abbrev pub rank : Spot → ℕ
   rank spot = count (λ depth b. is_lt (spot_cmp (spot_of depth b) spot)) 0 tree_of
 
-  -- a box is needed where its key does not come after that of the answer; without an answer all
-  -- boxes are needed
+  -- a box is needed to find a recipe where its key does not come after that of the recipe; where
+  -- there is no such recipe all boxes are needed
   abbrev pub is_needed : Option (List ℕ) → Span → Bool
   is_needed None b = true
-  is_needed (Some answer) b = not (is_before l answer b.lo)
+  is_needed (Some last) b = not (is_before l last b.lo)
 
-  -- the number of boxes that are needed
+  -- the number of boxes that are needed to find a recipe
+  abbrev pub need_to : Option (List ℕ) → ℕ
+  need_to last = count (λ depth b. is_needed last b) 0 tree_of
+
+  -- the number of boxes that are needed to find the answer
   abbrev pub need : ℕ
-  need = count (λ depth b. is_needed (answer_of l) b) 0 tree_of
+  need = need_to (answer_of l)
 
   -- a tree has at most 2 G - 1 boxes, where there are G recipes
   abbrev pub TreeIsSmall : Type 0

@@ -30,6 +30,18 @@ pub enum Claim {
     Floor(u64),
 }
 
+/// Which boxes a certificate may leave without a line of their own: those of which no recipe matters
+/// to what it claims.
+#[derive(Debug, Drop)]
+pub enum Cutoff {
+    /// Those whose lower corner comes after this recipe.
+    After(Steps),
+    /// Those whose lower corner costs at least this.
+    From(u64),
+    /// None.
+    Never,
+}
+
 /// A rule of the certificate's grammar.
 #[derive(Clone, Copy, Debug, PartialEq, Eq)]
 pub enum CertRule {

@@ -5,5 +5,5 @@
 mod certificate;
 mod judged;
 
-pub use certificate::{CertFault, CertLine, CertRule, Checked, Claim, Why};
+pub use certificate::{CertFault, CertLine, CertRule, Checked, Claim, Cutoff, Why};
 pub use judged::Judged;

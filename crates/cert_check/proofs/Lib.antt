@@ -1,3 +1,5 @@
+pub mod Exact
+pub mod Faults
 pub mod Marking
 pub mod Order
 pub mod Parts

@@ -3,14 +3,13 @@ use Rattle.std.proofs.Common.{◌≡◌, ◌+◌, ◌<◌, ◌||◌, ◌++◌, �
 use Rattle.std.proofs.lemmas.Bool.{cases_lt, false≢true}
 use Rattle.std.proofs.lemmas.List.{get_or-replicate, get_or-set_other, get_or-set_same, length-replicate, length-set}
 use Rattle.std.proofs.lemmas.List.Folds.{list_any-append}
-use Rattle.box_specs.specs.declared.certificate.CertLine.{CertLine}
 use Rattle.box_specs.specs.Landscape.{Land, is_before}
 use Rattle.box_specs.specs.Span.{Span, same_steps}
-use Rattle.box_specs.specs.Validity.{is_listed, is_undecided_line, unmarked_failure}
+use Rattle.box_specs.specs.Validity.{is_listed, unmarked_failure}
 use Rattle.box_specs.proofs.Answers.{never_before_itself}
 use Rattle.cert_check.specs.Marks.{HasMarks, MarksMore, first_unmarked}
 use Rattle.cert_check.specs.Ready.{IsSorted}
-use Rattle.cert_check.specs.Walk.{own_recipe}
+use Rattle.cert_check.specs.Walk.{recipe_if}
 use Rattle.cert_check.proofs.Order.{differs, itself, listed_at}
 use Rattle.cert_check.proofs.Within.{or_wrong}
 
@@ -29,13 +28,13 @@ or_assoc false b c = refl
 one_listed : (a b : List ℕ) (t : Bool) → same_steps b a ≡ t → is_listed (a ∷ []) b ≡ t
 one_listed a b t e = sym (or_false (same_steps b a)) ∙ e
 
-own_is : (b : Span) (line : CertLine) → is_undecided_line line ≡ true → own_recipe b line ≡ b.lo ∷ []
-own_is b line e = rw e refl
+own_is : (b : Span) (t : Bool) → t ≡ true → recipe_if t b ≡ b.lo ∷ []
+own_is b t e = rw e refl
 
-pub mark_none : (listed : List (List ℕ)) (marks : List Bool) (b : Span) (line : CertLine) → is_undecided_line line ≡ true
-    → is_listed listed b.lo ≡ false → MarksMore marks marks (own_recipe b line) listed
-mark_none listed marks b line e h =
-    subst (λ us. MarksMore marks marks us listed) (sym (own_is b line e)) (record {
+pub mark_none : (listed : List (List ℕ)) (marks : List Bool) (b : Span) (t : Bool) → t ≡ true
+    → is_listed listed b.lo ≡ false → MarksMore marks marks (recipe_if t b) listed
+mark_none listed marks b t e h =
+    subst (λ us. MarksMore marks marks us listed) (sym (own_is b t e)) (record {
       long = refl;
       each = λ k lt. or_false (get_or marks k false) ∙ ap (λ t. get_or marks k false || t) (sym (one_listed b.lo (get_or listed k []) false
           (differs (get_or listed k []) b.lo (λ same. false≢true (sym h ∙ listed_at listed b.lo k lt same)))));
@@ -46,11 +45,11 @@ other_index : (l : Land) (listed : List (List ℕ)) (i k : ℕ) → IsSorted l l
 other_index l listed i k s lt le e =
     false≢true (sym (never_before_itself l (get_or listed k [])) ∙ subst (λ r. is_before l r (get_or listed k []) ≡ true) e (s.rising i k lt le))
 
-pub mark_some : (l : Land) (listed : List (List ℕ)) (marks : List Bool) (b : Span) (line : CertLine) (i : ℕ) → IsSorted l listed
-    → length marks ≡ length listed → is_undecided_line line ≡ true → i < length listed → get_or listed i [] ≡ b.lo
-    → MarksMore marks (set marks i true) (own_recipe b line) listed
-mark_some l listed marks b line i s long e there at =
-    subst (λ us. MarksMore marks (set marks i true) us listed) (sym (own_is b line e)) (record { long = length-set marks i true; each = each }) where
+pub mark_some : (l : Land) (listed : List (List ℕ)) (marks : List Bool) (b : Span) (t : Bool) (i : ℕ) → IsSorted l listed
+    → length marks ≡ length listed → t ≡ true → i < length listed → get_or listed i [] ≡ b.lo
+    → MarksMore marks (set marks i true) (recipe_if t b) listed
+mark_some l listed marks b t i s long e there at =
+    subst (λ us. MarksMore marks (set marks i true) us listed) (sym (own_is b t e)) (record { long = length-set marks i true; each = each }) where
       other : (k : ℕ) → k < length listed → (k ≡ i → ⊥) → (get_or listed k [] ≡ get_or listed i [] → ⊥)
           → get_or (set marks i true) k false ≡ get_or marks k false || is_listed (b.lo ∷ []) (get_or listed k [])
       other k lt ne away =

@@ -1,9 +1,8 @@
--- A mark for each listed recipe: whether it has an undecided line.
+-- A mark for each recipe of a list: whether it has its line.
 use Rattle.std.specs.Prelude.{◌≡◌, ◌<◌, ◌+◌, ◌||◌, ℕ, Bool, false, Option, Some, None, List, [], ◌∷◌, length, slice_index_or, if◌then◌else◌}
-use Rattle.box_specs.specs.declared.certificate.CertLine.{CertLine}
 use Rattle.box_specs.specs.declared.certificate.Why.{Why}
 use Rattle.box_specs.specs.declared.certificate.Why.TheVariants.{WrongList}
-use Rattle.box_specs.specs.Validity.{is_listed, is_pass_line}
+use Rattle.box_specs.specs.Validity.{is_listed}
 
 -- new is old with the marks of these recipes added
 pub record MarksMore (old new : List Bool) (recipes listed : List (List ℕ)) : Type 0 where
@@ -17,12 +16,7 @@ pub record HasMarks (marks : List Bool) (coming listed all : List (List ℕ)) : 
   pub each : (k : ℕ) → k < length listed
       → slice_index_or marks k false || is_listed coming (slice_index_or listed k []) ≡ is_listed all (slice_index_or listed k [])
 
--- the first listed recipe without a mark, from the line of this number on
+-- the first recipe of a list without a mark, from the line of this number on
 abbrev pub first_unmarked : ℕ → List Bool → Option (ℕ × Why)
 first_unmarked number [] = None
 first_unmarked number (mark ∷ marks) = if mark then first_unmarked (number + 1) marks else Some (number, WrongList)
-
--- some line is a pass line
-abbrev pub has_pass_line : List CertLine → Bool
-has_pass_line [] = false
-has_pass_line (line ∷ lines) = is_pass_line line || has_pass_line lines

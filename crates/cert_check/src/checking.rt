@@ -3,62 +3,50 @@
 ghost use Rattle.std.specs.Prelude.{◌≡◌, ◌≤◌, ◌+◌, ◌↔◌, IfOk, length, true};
 ghost use Rattle.box_specs.specs.declared.certificate.Checked.TheVariants.{Accepted};
 ghost use Rattle.box_specs.specs.Meaning.{Means};
-ghost use Rattle.box_specs.specs.Validity.{IsValid, are_trees, first_failure};
+ghost use Rattle.box_specs.specs.Span.{lists};
+ghost use Rattle.box_specs.specs.Validity.{IsValid, first_failure};
 ghost use Rattle.cert_check.specs.Ready.{IsReady};
-ghost use Rattle.cert_check.specs.Result.{checked_of, tree_failure, unclaimed_by};
+ghost use Rattle.cert_check.specs.Result.{checked_of, tree_failure};
 
 use crate::grid::count_of;
-use crate::list::{claim_failure, list_failure};
-use crate::marks::{first_unmarked, has_pass_line};
+use crate::list::list_failure;
+use crate::marks::{Marks, first_unmarked};
+use crate::stance::{Stance, cutoff_of, matched_of};
 use crate::walking::walk;
-use box_core::{Cert, CertLine, Checked, Claim, Landscape, StepsList, Why};
+use box_core::{Cert, CertLine, Checked, Cutoff, Landscape, Why};
 use std::alloc::{AllocError, Global};
 
-/// The failure of a match that has no pass line.
-fn unclaimed_failure(claim: &Claim, lines: &[CertLine]) -> Option<(u32, Why)>
-    ensures { result ≡ unclaimed_by claim.now lines.now }
-{
-    match claim {
-        Claim::Match(_) => {
-            if has_pass_line(lines) {
-                None
-            } else {
-                Some((2, Why::WrongList))
-            }
-        },
-        Claim::NoMatch => None,
-        Claim::Floor(_) => None,
-    }
-}
-
-/// The first failure of the lines of the tree, or else of the list or the claim against them.
+/// The first failure of the lines of the tree, or else of a list against them.
 fn tree_failure<L: Landscape>(
     alloc: Global,
     land: &L,
-    claim: &Claim,
-    listed: &StepsList,
+    stance: &Stance,
     lines: &[CertLine],
     meter: &mut L::Meter,
 ) -> Result<Option<(u32, Why)>, AllocError>
-    requires ready { IsReady (L.land land.now) claim.now listed.now }
-    requires few_listed { length listed.now ≤ 1000000 }
+    requires ready { IsReady (L.land land.now) stance.now.cutoff
+        (lists stance.now.matched.now) (lists stance.now.listed.now) }
+    requires few_matched { length (lists stance.now.matched.now) ≤ 1000000 }
+    requires few_listed { length (lists stance.now.listed.now) ≤ 1000000 }
     requires few_lines { length lines.now ≤ 32000000 }
-    requires whole { are_trees 1 lines.now ≡ true }
-    ensures is { IfOk result (λ failure. failure
-        ≡ tree_failure (L.land land.now) claim.now listed.now lines.now) }
+    ensures is { IfOk result (λ failure. failure ≡ tree_failure (L.land land.now) stance.now.cutoff
+        (lists stance.now.matched.now) (lists stance.now.listed.now) lines.now) }
     ensures judged { L.judged_count land.now meter.new
         ≤ L.judged_count land.now meter.old + length lines.now }
 {
-    let mut marks = vec![in alloc; false; count_of(listed)]?;
-    let failure = walk(alloc, land, claim, listed, lines, &mut marks, meter)?;
+    let mut marks = Marks {
+        passed: vec![in alloc; false; count_of(stance.matched)]?,
+        unsure: vec![in alloc; false; count_of(stance.listed)]?,
+    };
+    let failure = walk(alloc, land, stance, lines, &mut marks, meter)?;
     if failure.is_some() {
         return Ok(failure);
     }
-    let failure = first_unmarked(marks.as_slice());
+    let failure = first_unmarked(marks.unsure.as_slice(), 4);
     if failure.is_some() {
         return Ok(failure);
     }
-    Ok(unclaimed_failure(claim, lines))
+    Ok(first_unmarked(marks.passed.as_slice(), 2))
 }
 
 /// The first failure of a certificate.
@@ -73,23 +61,23 @@ fn first_failure<L: Landscape>(
     ensures judged { L.judged_count land.now meter.new
         ≤ L.judged_count land.now meter.old + length cert.now.lines }
 {
+    // For its clause that the landscape is lawful.
     let _top = land.top();
-    let failure = claim_failure(land, &cert.claim);
+    let matched = matched_of(&cert.claim);
+    let failure = list_failure(land, &Cutoff::Never, matched, 2);
     if failure.is_some() {
         return Ok(failure);
     }
-    let failure = list_failure(land, &cert.claim, &cert.undecided);
+    let stance = Stance {
+        cutoff: cutoff_of(&cert.claim),
+        matched,
+        listed: cert.undecided.as_slice(),
+    };
+    let failure = list_failure(land, &stance.cutoff, stance.listed, 4);
     if failure.is_some() {
         return Ok(failure);
     }
-    tree_failure(
-        alloc,
-        land,
-        &cert.claim,
-        &cert.undecided,
-        cert.lines.as_slice(),
-        meter,
-    )
+    tree_failure(alloc, land, &stance, cert.lines.as_slice(), meter)
 }
 
 /// Accepted where nothing fails, and else refused with the first failure.
@@ -119,6 +107,7 @@ pub fn check<L: Landscape>(
     ensures judged { L.judged_count land.now meter.new
         ≤ L.judged_count land.now meter.old + length cert.now.lines }
 {
+    // For its clause that the landscape is lawful.
     let _top = land.top();
     let failure = first_failure(alloc, land, cert, meter)?;
     Ok(checked_of(failure))

@@ -2,10 +2,10 @@
 
 ghost use Rattle.std.specs.Prelude.{◌≡◌, ◌&&◌, ◌<◌, length, nat_le, slice_index_or, []};
 ghost use Rattle.box_specs.specs.Landscape.{is_before};
-ghost use Rattle.box_specs.specs.Span.{IsWithin, same_steps};
+ghost use Rattle.box_specs.specs.Span.{IsWithin, lists, same_steps};
 ghost use Rattle.box_specs.specs.Validity.{is_within};
 
-use box_core::{BoxR, Landscape, StepsList};
+use box_core::{BoxR, Landscape};
 use price_grid::{Steps, compare};
 
 /// Whether a number lies in a range.
@@ -56,16 +56,16 @@ pub(crate) fn is_same(a: &Steps, b: &Steps) -> bool
 }
 
 /// How many recipes are listed.
-pub(crate) fn count_of(listed: &StepsList) -> usize
-    ensures { result ≡ length listed.now }
+pub(crate) fn count_of(listed: &[Steps]) -> usize
+    ensures { result ≡ length (lists listed.now) }
 {
-    listed.as_slice().len()
+    listed.len()
 }
 
 /// A listed recipe.
-pub(crate) fn recipe_at(listed: &StepsList, i: usize) -> &Steps
-    requires { i < length listed.now }
-    ensures { result.now.items ≡ slice_index_or listed.now i [] }
+pub(crate) fn recipe_at(listed: &[Steps], i: usize) -> &Steps
+    requires { i < length (lists listed.now) }
+    ensures { result.now.items ≡ slice_index_or (lists listed.now) i [] }
 {
-    &listed.as_slice()[i]
+    &listed[i]
 }

@@ -8,6 +8,7 @@ pub mod laws;
 mod lines;
 mod list;
 mod marks;
+mod stance;
 mod waiting;
 mod walking;
 

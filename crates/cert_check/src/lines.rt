@@ -1,15 +1,18 @@
 //! The lines of a tree, each against its box.
 
-ghost use Rattle.std.specs.Prelude.{◌≡◌, ◌&&◌, None};
-ghost use Rattle.box_specs.specs.declared.certificate.CertLine.TheVariants.{Pass, Undecided};
-ghost use Rattle.box_specs.specs.Span.{IsWithin};
-ghost use Rattle.box_specs.specs.Validity.{is_claimed, is_dear, is_listed, line_fault, splits, unless};
-ghost use Rattle.cert_check.specs.Ready.{IsPart, IsReady, IsSorted};
-ghost use Rattle.cert_check.specs.Walk.{AtMostOne};
+ghost use Rattle.std.specs.Prelude.{◌≡◌, None};
+ghost use Rattle.box_specs.specs.declared.certificate.CertLine.TheVariants.{Pass, Split, Undecided};
+ghost use Rattle.box_specs.specs.declared.certificate.Why.TheVariants.{BadSplit};
+ghost use Rattle.box_specs.specs.Landscape.{IsSound};
+ghost use Rattle.box_specs.specs.Span.{IsWithin, lists};
+ghost use Rattle.box_specs.specs.Validity.{is_dear, is_listed, line_fault, splits, unless};
+ghost use Rattle.cert_check.specs.Ready.{CutoffIsWithin, IsReady, IsSorted};
+ghost use Rattle.cert_check.specs.Walk.{AtMostOne, halves_by};
 
-use crate::grid::{is_before, is_same};
+use crate::grid::is_before;
 use crate::list::index_of;
-use box_core::{BoxR, CertLine, Claim, Judged, Landscape, StepsList, Why, corner_key, halves};
+use crate::stance::Stance;
+use box_core::{BoxR, CertLine, Cutoff, Judged, Landscape, Why, corner_key, halves};
 use price_grid::Steps;
 
 /// `None` where a line holds, and else why it does not.
@@ -19,43 +22,25 @@ fn unless(holds: bool, why: Why) -> Option<Why>
     if holds { None } else { Some(why) }
 }
 
-/// Whether the box can be split after `mid` steps of the dye of this number, from 1.
-fn can_split(part: &BoxR, dye: u8, mid: u16) -> bool
-    ensures { result ≡ splits part.now dye mid }
-{
-    halves(part, dye, mid).is_some()
-}
-
-/// Whether the box is too dear for the claim.
+/// Whether the box is too dear.
 #[tactic(auto, using(crate::proofs::Parts::corner_within))]
-fn is_dear<L: Landscape>(land: &L, claim: &Claim, listed: &StepsList, part: &BoxR) -> bool
-    requires ready { IsReady (L.land land.now) claim.now listed.now }
-    requires part { IsPart (L.land land.now) part.now }
-    ensures { result ≡ is_dear (L.land land.now) claim.now listed.now claim.now part.now }
+fn is_dear<L: Landscape>(land: &L, cutoff: &Cutoff, part: &BoxR) -> bool
+    requires cut_off { CutoffIsWithin (L.land land.now) cutoff.now }
+    requires part { IsSound (L.land land.now) part.now }
+    ensures { result ≡ is_dear (L.land land.now) cutoff.now part.now }
 {
-    match claim {
-        Claim::Match(recipe) => is_before(land, recipe, &part.lo),
-        Claim::NoMatch => false,
-        Claim::Floor(cost) => *cost <= corner_key(land, part).cost,
-    }
-}
-
-/// Whether the claim is a match of this recipe.
-fn is_claimed(claim: &Claim, steps: &Steps) -> bool
-    ensures { result ≡ is_claimed claim.now steps.now.items }
-{
-    match claim {
-        Claim::Match(recipe) => is_same(recipe, steps),
-        Claim::NoMatch => false,
-        Claim::Floor(_) => false,
+    match cutoff {
+        Cutoff::After(recipe) => is_before(land, recipe, &part.lo),
+        Cutoff::From(cost) => *cost <= corner_key(land, part).cost,
+        Cutoff::Never => false,
     }
 }
 
 /// Whether a recipe is listed.
-fn is_listed<L: Landscape>(land: &L, listed: &StepsList, steps: &Steps) -> bool
-    requires sorted { IsSorted (L.land land.now) listed.now }
+fn is_listed<L: Landscape>(land: &L, listed: &[Steps], steps: &Steps) -> bool
+    requires sorted { IsSorted (L.land land.now) (lists listed.now) }
     requires recipe { IsWithin steps.now.items (L.land land.now).top }
-    ensures { result ≡ is_listed listed.now steps.now.items }
+    ensures { result ≡ is_listed (lists listed.now) steps.now.items }
 {
     index_of(land, listed, steps).is_some()
 }
@@ -63,14 +48,15 @@ fn is_listed<L: Landscape>(land: &L, listed: &StepsList, steps: &Steps) -> bool
 /// Why an undecided line does not hold.
 fn undecided_fault<L: Landscape>(
     land: &L,
-    claim: &Claim,
-    listed: &StepsList,
+    stance: &Stance,
     part: &BoxR,
     meter: &mut L::Meter,
 ) -> Option<Why>
-    requires ready { IsReady (L.land land.now) claim.now listed.now }
-    requires part { IsPart (L.land land.now) part.now }
-    ensures is { result ≡ line_fault (L.land land.now) claim.now listed.now part.now Undecided }
+    requires ready { IsReady (L.land land.now) stance.now.cutoff
+        (lists stance.now.matched.now) (lists stance.now.listed.now) }
+    requires part { IsSound (L.land land.now) part.now }
+    ensures is { result ≡ line_fault (L.land land.now) stance.now.cutoff
+        (lists stance.now.matched.now) (lists stance.now.listed.now) part.now Undecided }
     ensures judged { AtMostOne
         (L.judged_count land.now meter.old) (L.judged_count land.now meter.new) }
 {
@@ -80,20 +66,21 @@ fn undecided_fault<L: Landscape>(
     if land.judge(part, meter) != Judged::Undecided {
         return Some(Why::NotUndecided);
     }
-    unless(is_listed(land, listed, &part.lo), Why::WrongList)
+    unless(is_listed(land, stance.listed, &part.lo), Why::WrongList)
 }
 
 /// Why a pass line does not hold.
 fn pass_fault<L: Landscape>(
     land: &L,
-    claim: &Claim,
-    listed: &StepsList,
+    stance: &Stance,
     part: &BoxR,
     meter: &mut L::Meter,
 ) -> Option<Why>
-    requires ready { IsReady (L.land land.now) claim.now listed.now }
-    requires part { IsPart (L.land land.now) part.now }
-    ensures is { result ≡ line_fault (L.land land.now) claim.now listed.now part.now Pass }
+    requires ready { IsReady (L.land land.now) stance.now.cutoff
+        (lists stance.now.matched.now) (lists stance.now.listed.now) }
+    requires part { IsSound (L.land land.now) part.now }
+    ensures is { result ≡ line_fault (L.land land.now) stance.now.cutoff
+        (lists stance.now.matched.now) (lists stance.now.listed.now) part.now Pass }
     ensures judged { AtMostOne
         (L.judged_count land.now meter.old) (L.judged_count land.now meter.new) }
 {
@@ -103,30 +90,47 @@ fn pass_fault<L: Landscape>(
     if land.judge(part, meter) != Judged::Pass {
         return Some(Why::NotPassing);
     }
-    unless(is_claimed(claim, &part.lo), Why::WrongList)
+    unless(is_listed(land, stance.matched, &part.lo), Why::WrongList)
 }
 
-/// Why a line does not hold for its box.
-pub(crate) fn line_fault<L: Landscape>(
+/// The halves of a box that is split after `mid` steps of the dye of this number, or why it cannot
+/// be.
+fn split_at(part: &BoxR, dye: u8, mid: u16) -> (Option<Why>, Option<(BoxR, BoxR)>)
+    ensures fault { result.0 ≡ unless (splits part.now dye mid) BadSplit None }
+    ensures halves { result.0 ≡ None → result.1 ≡ halves_by part.now (Split dye mid) }
+{
+    match halves(part, dye, mid) {
+        None => (Some(Why::BadSplit), None),
+        both => (None, both),
+    }
+}
+
+/// Why a line does not hold for its box, and the halves of a box that it splits.
+pub(crate) fn check_line<L: Landscape>(
     land: &L,
-    claim: &Claim,
-    listed: &StepsList,
+    stance: &Stance,
     part: &BoxR,
     line: CertLine,
     meter: &mut L::Meter,
-) -> Option<Why>
-    requires ready { IsReady (L.land land.now) claim.now listed.now }
-    requires part { IsPart (L.land land.now) part.now }
-    ensures is { result ≡ line_fault (L.land land.now) claim.now listed.now part.now line }
+) -> (Option<Why>, Option<(BoxR, BoxR)>)
+    requires ready { IsReady (L.land land.now) stance.now.cutoff
+        (lists stance.now.matched.now) (lists stance.now.listed.now) }
+    requires part { IsSound (L.land land.now) part.now }
+    ensures is { result.0 ≡ line_fault (L.land land.now) stance.now.cutoff
+        (lists stance.now.matched.now) (lists stance.now.listed.now) part.now line }
+    ensures halves { result.0 ≡ None → result.1 ≡ halves_by part.now line }
     ensures judged { AtMostOne
         (L.judged_count land.now meter.old) (L.judged_count land.now meter.new) }
 {
     match line {
-        CertLine::Split { dye, mid } => unless(can_split(part, dye, mid), Why::BadSplit),
-        CertLine::Limit(k) => unless(land.excludes(k, part), Why::NotLimit),
-        CertLine::Fail(j) => unless(land.fails(j, part, meter), Why::NotFailing),
-        CertLine::Dear => unless(is_dear(land, claim, listed, part), Why::NotDear),
-        CertLine::Undecided => undecided_fault(land, claim, listed, part, meter),
-        CertLine::Pass => pass_fault(land, claim, listed, part, meter),
+        CertLine::Split { dye, mid } => split_at(part, dye, mid),
+        CertLine::Limit(k) => (unless(land.excludes(k, part), Why::NotLimit), None),
+        CertLine::Fail(j) => (unless(land.fails(j, part, meter), Why::NotFailing), None),
+        CertLine::Dear => (
+            unless(is_dear(land, &stance.cutoff, part), Why::NotDear),
+            None,
+        ),
+        CertLine::Undecided => (undecided_fault(land, stance, part, meter), None),
+        CertLine::Pass => (pass_fault(land, stance, part, meter), None),
     }
 }

@@ -1,17 +1,25 @@
-//! Which listed recipes have an undecided line, and whether a match has its pass line.
+//! Which recipes of the lists have their lines.
 
 ghost use Rattle.std.specs.Prelude.{◌≡◌, ◌≤◌, length};
-ghost use Rattle.box_specs.specs.Span.{IsWithin};
+ghost use Rattle.box_specs.specs.Span.{IsWithin, lists};
 ghost use Rattle.box_specs.specs.Validity.{is_pass_line, is_undecided_line};
-ghost use Rattle.cert_check.specs.Marks.{MarksMore, first_unmarked, has_pass_line};
+ghost use Rattle.cert_check.specs.Marks.{MarksMore, first_unmarked};
 ghost use Rattle.cert_check.specs.Ready.{IsSorted};
-ghost use Rattle.cert_check.specs.Walk.{own_recipe};
+ghost use Rattle.cert_check.specs.Walk.{recipe_if};
 
 use crate::list::index_of;
-use box_core::{BoxR, CertLine, Landscape, StepsList, Why};
+use box_core::{BoxR, CertLine, Landscape, Why};
+use price_grid::Steps;
+
+/// A mark for each recipe that passes and for each undecided one.
+#[derive(Drop)]
+pub(crate) struct Marks {
+    pub passed: Vec<bool>,
+    pub unsure: Vec<bool>,
+}
 
 /// Whether a line says that its recipe is undecided.
-fn is_undecided_line(line: CertLine) -> bool
+pub(crate) fn is_undecided_line(line: CertLine) -> bool
     ensures { result ≡ is_undecided_line line }
 {
     match line {
@@ -22,7 +30,7 @@ fn is_undecided_line(line: CertLine) -> bool
 }
 
 /// Whether a line says that its recipe passes.
-fn is_pass_line(line: CertLine) -> bool
+pub(crate) fn is_pass_line(line: CertLine) -> bool
     ensures { result ≡ is_pass_line line }
 {
     match line {
@@ -32,47 +40,37 @@ fn is_pass_line(line: CertLine) -> bool
     }
 }
 
-/// Marks the recipe of a box whose line is undecided.
+/// Marks the recipe of a box in a list, if the box has a line for that list.
 pub(crate) fn mark<L: Landscape>(
     land: &L,
-    listed: &StepsList,
+    listed: &[Steps],
     part: &BoxR,
-    line: CertLine,
+    has_line: bool,
     marks: &mut Vec<bool>,
 )
-    requires sorted { IsSorted (L.land land.now) listed.now }
+    requires sorted { IsSorted (L.land land.now) (lists listed.now) }
     requires recipe { IsWithin part.now.lo (L.land land.now).top }
-    requires long { length marks.old.items ≡ length listed.now }
-    ensures { MarksMore marks.old.items marks.new.items (own_recipe part.now line) listed.now }
+    requires long { length marks.old.items ≡ length (lists listed.now) }
+    ensures { MarksMore
+        marks.old.items marks.new.items (recipe_if has_line part.now) (lists listed.now) }
 {
-    if is_undecided_line(line) {
+    if has_line {
         if let Some(i) = index_of(land, listed, &part.lo) {
             marks[i] = true;
         }
     }
 }
 
-/// The first listed recipe without a mark. The list begins in line 4.
-pub(crate) fn first_unmarked(marks: &[bool]) -> Option<(u32, Why)>
-    requires { length marks.now ≤ 1000000 }
-    ensures { result ≡ first_unmarked 4 marks.now }
+/// The first recipe of a list without a mark. The list begins in the line of the given number.
+pub(crate) fn first_unmarked(marks: &[bool], first_line: u32) -> Option<(u32, Why)>
+    requires few { length marks.now ≤ 1000000 }
+    requires line { first_line ≤ 4000000 }
+    ensures { result ≡ first_unmarked first_line marks.now }
 {
     for (i, marked) in marks.iter().enumerate() {
         if !*marked {
-            return Some((4 + i as u32, Why::WrongList));
+            return Some((first_line + i as u32, Why::WrongList));
         }
     }
     None
-}
-
-/// Whether some line is a pass line.
-pub(crate) fn has_pass_line(lines: &[CertLine]) -> bool
-    ensures { result ≡ has_pass_line lines.now }
-{
-    for line in lines {
-        if is_pass_line(*line) {
-            return true;
-        }
-    }
-    false
 }

@@ -1,10 +1,9 @@
 //! The boxes that wait for their lines.
 
 ghost use Rattle.std.specs.Prelude.{◌≡◌, MatchOption, IfOk, [], ◌∷◌};
-ghost use Rattle.box_specs.specs.Validity.{after};
-ghost use Rattle.cert_check.specs.Walk.{CanBeCut};
+ghost use Rattle.cert_check.specs.Walk.{with_halves};
 
-use box_core::{BoxR, CertLine, halves};
+use box_core::BoxR;
 use std::alloc::{AllocError, Global};
 use std::marker::Model;
 
@@ -50,17 +49,13 @@ impl Waiting {
         Ok(())
     }
 
-    /// Adds the boxes that wait for lines once this box has its line: both halves of one that is
-    /// split.
-    pub(crate) fn put_after(&mut self, part: &BoxR, line: CertLine) -> Result<(), AllocError>
-        requires { CanBeCut part.now line }
-        ensures { IfOk result (λ _. self.new ≡ after part.now self.old line) }
+    /// Puts both halves of a box before the others, if it was split.
+    pub(crate) fn put_halves(&mut self, halves: Option<(BoxR, BoxR)>) -> Result<(), AllocError>
+        ensures { IfOk result (λ _. self.new ≡ with_halves halves self.old) }
     {
-        if let CertLine::Split { dye, mid } = line {
-            if let Some((lower, upper)) = halves(part, dye, mid) {
-                self.put(upper)?;
-                self.put(lower)?;
-            }
+        if let Some((lower, upper)) = halves {
+            self.put(upper)?;
+            self.put(lower)?;
         }
         Ok(())
     }

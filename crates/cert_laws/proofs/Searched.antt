@@ -23,7 +23,7 @@ use Rattle.box_search.proofs.Valid.{answer, canonical_is_valid, first_is}
 use Rattle.box_core.specs.Ranges.{LineFits, StepsFit}
 use Rattle.box_cert.specs.Text.{HasDims}
 use Rattle.box_cert.proofs.Again.{cert_again}
-use Rattle.cert_check.proofs.Sound.{means}
+use Rattle.cert_check.proofs.Sound.{valid_means}
 use Rattle.cert_laws.specs.Laws.{ClaimHolds, ResultFits, ResultIsFirst, ResultIsRead, ResultIsShort, ResultIsValid, ResultMeans, search_cert}
 use Rattle.cert_laws.proofs.Sizes.{corners_few, line_size, order_few, total, tree_sizes}
 use Rattle.cert_laws.proofs.Spelled.{cert_short}
@@ -36,8 +36,7 @@ result_is_valid l lawful budget =
 pub result_means : (l : Land) → ResultMeans l
 result_means l lawful budget =
     let s = search_result l budget in
-    let valid = result_is_valid l lawful budget in
-    means l s.claim s.listed s.lines lawful valid.whole valid.holds
+    valid_means l s.claim s.listed s.lines lawful (result_is_valid l lawful budget)
 
 module _ (l : Land) (lawful : IsLawful l) (budget : ℕ) where
   abbrev Boxes : ℕ

@@ -9,7 +9,7 @@ use Rattle.box_specs.specs.Span.{Span}
 use Rattle.box_specs.specs.Splits.{cut_of}
 use Rattle.box_specs.specs.Tree.{Tree, count, fork, leaf}
 use Rattle.box_specs.specs.Validity.{after, corners, is_undecided_line}
-use Rattle.box_search.specs.Result.{in_order, put_in}
+use Rattle.box_specs.specs.Order.{in_order, put_in}
 use Rattle.box_search.specs.Trees.{IsSoundTree}
 use Rattle.box_search.proofs.Walks.{is_end, leaf_line, open_line}
 

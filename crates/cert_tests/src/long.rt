@@ -1,7 +1,7 @@
 //! Tests of long texts.
 
 use crate::texts::fault_of;
-use box_cert::{CertFault, CertRule, read_cert};
+use box_cert::{CERT_LIMIT, CertFault, CertRule, read_cert};
 use box_core::Evals;
 use box_tests::Ladder;
 use cert_check::{Checked, check};
@@ -44,7 +44,7 @@ fn deep_tree(alloc: Global) -> Result<String, AllocError> {
 #[test]
 fn accepts_a_deep_tree(rt: HostRuntime) -> Result<(), Fail> {
     let text = deep_tree(rt.alloc())?;
-    if text.len() > 64_000_000 {
+    if text.len() as u64 > CERT_LIMIT {
         return Ok(());
     }
     let cert = read_cert(rt.alloc(), text.as_bytes(), 1)?;

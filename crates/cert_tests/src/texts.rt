@@ -1,6 +1,6 @@
 //! Tests of whole texts.
 
-use box_cert::{CertError, CertFault, CertRule, read_cert, write_cert};
+use box_cert::{CERT_LIMIT, CertError, CertFault, CertRule, read_cert, write_cert};
 use box_core::{Cert, CertLine, Claim};
 use shelf_io::{MemShelf, Shelf};
 use std::alloc::{AllocError, Global};
@@ -8,7 +8,7 @@ use std::test::Fail;
 
 // The certificate that a text spells, for recipes of two dyes.
 fn read(alloc: Global, text: &[u8]) -> Result<Cert, CertError> {
-    if text.len() > 64_000_000 {
+    if text.len() as u64 > CERT_LIMIT {
         return Err(CertError::Memory);
     }
     read_cert(alloc, text, 2)

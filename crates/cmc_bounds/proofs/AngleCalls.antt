@@ -8,7 +8,7 @@ use Rattle.interval_specs.proofs.Order.{le_pos}
 use Rattle.interval_specs.proofs.Ranges.{carry_magnitude, carry_up_to, fraction_up_to, ratio_up_to}
 use Rattle.cmc_specs.specs.Cmc.{bracket}
 use Rattle.cmc_specs.proofs.Ranges.{part_magnitude}
-use Rattle.cmc_bounds.proofs.Calls.{sum_room, unit_magnitude}
+use Rattle.lab_parts.proofs.Rooms.{sum_room, unit_magnitude}
 
 pub bracket_room : (n low : ℕ) (z : ℤ) → z ≡ pos low → low < 10 ^ 12 → n ≤ 10 ^ 12 → unsigned_abs z * n ≤ 10 ^ 37
 bracket_room n low z e h few = subst (λ x. unsigned_abs x * n ≤ 10 ^ 37) (sym e) (let l : low ≤ 10 ^ 12 = omega arith in let m = mul-le-mul l few in omega arith)

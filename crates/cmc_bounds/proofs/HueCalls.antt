@@ -11,8 +11,8 @@ use Rattle.interval_specs.specs.Operations.{absolute_of, cut_high_at, difference
 use Rattle.interval_specs.proofs.Ranges.{absolute_up_to, carry_up_to}
 use Rattle.fix_bounds.proofs.Passed.{passed_is}
 use Rattle.cmc_specs.specs.Cmc.{cosine_magnitude, hue_weight}
-use Rattle.cmc_bounds.specs.Chroma.{IsChroma}
-use Rattle.cmc_bounds.proofs.Calls.{up_to_magnitude}
+use Rattle.lab_parts.specs.Chroma.{IsChroma}
+use Rattle.lab_parts.proofs.Rooms.{up_to_magnitude}
 
 is_zero : (z : ℤ) → z ≡ pos 0 → (unsigned_abs z == 0) ≡ true
 is_zero z e = ap (λ z. unsigned_abs z == 0) e

@@ -1,3 +1,2 @@
-pub mod Chroma
 pub mod Standard
 pub mod Quotients

@@ -1,36 +1,11 @@
 ghost use Rattle.std.specs.Prelude.{◌≡◌, ℕ, ◌+◌, ◌*◌, ◌^◌, ◌≤◌, unsigned_abs};
 ghost use Rattle.interval_specs.specs.Ends.{IsHeld};
-ghost use Rattle.interval_specs.specs.Ranges.{MagnitudeUpTo, UpTo, AtLeast};
-ghost use Rattle.cmc_specs.specs.Cmc.{chroma_at, chroma_denominator, chroma_gain, chroma_square, chroma_numerator, chroma_weight, fourth_power_share, hue_share};
-ghost use Rattle.cmc_bounds.specs.Chroma.{IsChroma};
+ghost use Rattle.interval_specs.specs.Ranges.{UpTo, AtLeast};
+ghost use Rattle.cmc_specs.specs.Cmc.{chroma_denominator, chroma_gain, chroma_numerator, chroma_weight, fourth_power_share, hue_share};
 
 use crate::quotient::{Quotient, outward, times_unit};
 use fix_bounds::{Iv, Scale, unit};
 use root_bounds::sqrt_iv;
-
-/// The sum of the squares of two opponent coordinates, or of two differences of them.
-pub(crate) fn chroma_square<S: Scale>(a: Iv<S>, b: Iv<S>) -> Iv<S>
-    requires a { MagnitudeUpTo (2000 * S.unit) a }
-    requires b { MagnitudeUpTo (2000 * S.unit) b }
-    ensures is { result ≡ chroma_square S.unit a b }
-    ensures range { UpTo (8 * 10 ^ 6 * S.unit) result }
-    ensures narrow { MagnitudeUpTo (1000 * S.unit) a → MagnitudeUpTo (1000 * S.unit) b
-        → UpTo (2 * 10 ^ 6 * S.unit) result }
-{
-    let first = a.square();
-    let second = b.square();
-    first.add(second)
-}
-
-/// The chroma.
-pub(crate) fn chroma<S: Scale>(a: Iv<S>, b: Iv<S>) -> Iv<S>
-    requires a { MagnitudeUpTo (1000 * S.unit) a }
-    requires b { MagnitudeUpTo (1000 * S.unit) b }
-    ensures is { result ≡ chroma_at S.unit a b }
-    ensures range { IsChroma S.unit result }
-{
-    sqrt_iv(chroma_square(a, b))
-}
 
 /// 0.0638 t / (1 + 0.0131 t) for an end t of the chroma, as a quotient of whole numbers.
 fn gain_at<S: Scale>(t: i128) -> Quotient

@@ -1,19 +1,21 @@
-ghost use Rattle.std.specs.Prelude.{◌≡◌, ℕ, ℤ, pos, ◌*◌, ◌^◌, ◌<◌, ◌≤◌};
+ghost use Rattle.std.specs.Prelude.{◌≡◌, ℕ, ◌*◌, ◌^◌};
 ghost use Rattle.interval_specs.specs.Ends.{IsHeld};
 ghost use Rattle.interval_specs.specs.Ranges.{MagnitudeUpTo, UpTo, AtLeast};
-ghost use Rattle.interval_specs.specs.Operations.{cut_low_at, difference_of, fraction_of, quotient_at, square_at, sum_of};
-ghost use Rattle.interval_specs.specs.Roots.{sqrt_at};
+ghost use Rattle.interval_specs.specs.Operations.{fraction_of, quotient_at, square_at};
 ghost use Rattle.cielab_bounds.specs.Lab.{lab_ends};
 ghost use Rattle.cmc_bounds.specs.Standard.{standard_ends};
-ghost use Rattle.cmc_specs.specs.Cmc.{chroma_at, chroma_square, kept_difference, standard_at};
+ghost use Rattle.cmc_specs.specs.Cmc.{kept_difference, standard_at};
 
-use crate::chroma::{chroma, chroma_square, chroma_weight, hue_share};
+use crate::chroma::{chroma_weight, hue_share};
 use crate::hue::{hue_factor, hue_weight};
 use crate::lightness::lightness_weight;
 use crate::rule::Cmc;
 use crate::standard::Standard;
 use cielab_bounds::Lab;
 use fix_bounds::{Iv, Scale};
+use lab_parts::{
+    chroma_difference, chroma_square, hue_difference_square, length, lightness_difference,
+};
 use root_bounds::sqrt_iv;
 
 /// The values of a standard that its differences need.
@@ -42,34 +44,21 @@ pub fn delta<S: Scale>(rule: &Cmc, standard: &Standard<S>, sample: &Lab<S>) -> I
         (standard_ends standard.now) (lab_ends sample.now) }
     ensures held { IsHeld result }
 {
-    let chroma_delta = chroma_difference(standard, sample);
-    let lightness = lightness_term(rule, standard, sample);
-    let chroma = chroma_term(rule, standard, chroma_delta);
-    let hue = hue_term(
-        hue_difference_square(standard, sample, chroma_delta),
-        standard,
-    );
-    length(lightness, chroma, hue)
+    let dl = lightness_difference(standard.l1, sample);
+    let dc = chroma_difference(standard.c1, sample);
+    let hue_square = hue_difference_square(standard.a1, standard.b1, dc, sample);
+    let lightness = lightness_term(rule, standard, dl);
+    let chroma = chroma_term(rule, standard, dc);
+    length(lightness, chroma, hue_term(hue_square, standard))
 }
 
-/// dL over l S_L, where dL is the difference of lightness.
-fn lightness_term<S: Scale>(rule: &Cmc, standard: &Standard<S>, sample: &Lab<S>) -> Iv<S>
-    ensures is { result
-        ≡ quotient_at S.unit (difference_of sample.now.l standard.now.l1)
-        (fraction_of rule.now.l10 10 standard.now.sl) }
+/// dL over l S_L.
+fn lightness_term<S: Scale>(rule: &Cmc, standard: &Standard<S>, delta: Iv<S>) -> Iv<S>
+    requires { MagnitudeUpTo (2000 * S.unit) delta }
+    ensures is { result ≡ quotient_at S.unit delta (fraction_of rule.now.l10 10 standard.now.sl) }
     ensures range { MagnitudeUpTo (40000 * S.unit) result }
 {
-    let delta = sample.l.sub(standard.l1);
     delta.div(standard.sl.ratio_up(rule.l10 as u64, 10))
-}
-
-/// dC, the difference of chroma.
-fn chroma_difference<S: Scale>(standard: &Standard<S>, sample: &Lab<S>) -> Iv<S>
-    ensures is { result
-        ≡ difference_of (chroma_at S.unit sample.now.a sample.now.b) standard.now.c1 }
-    ensures range { MagnitudeUpTo (1415 * S.unit) result }
-{
-    chroma(sample.a, sample.b).sub(standard.c1)
 }
 
 /// dC over c S_C.
@@ -79,20 +68,6 @@ fn chroma_term<S: Scale>(rule: &Cmc, standard: &Standard<S>, delta: Iv<S>) -> Iv
     ensures range { MagnitudeUpTo (23000 * S.unit) result }
 {
     delta.div(standard.sc.ratio_up(rule.c10 as u64, 10))
-}
-
-/// dH^2, the square of the difference of hue: da^2 + db^2 - dC^2, which is not below 0.
-fn hue_difference_square<S: Scale>(standard: &Standard<S>, sample: &Lab<S>, delta: Iv<S>) -> Iv<S>
-    requires { MagnitudeUpTo (1415 * S.unit) delta }
-    ensures is { let da = difference_of sample.now.a standard.now.a1 in
-        let db = difference_of sample.now.b standard.now.b1 in
-        result
-        ≡ cut_low_at S.unit (pos 0)
-        (difference_of (chroma_square S.unit da db) (square_at S.unit delta)) }
-    ensures range { UpTo (8 * 10 ^ 6 * S.unit) result }
-{
-    let all = chroma_square(sample.a.sub(standard.a1), sample.b.sub(standard.b1));
-    all.sub(delta.square()).cut_low(0)
 }
 
 /// S_H^2.
@@ -110,18 +85,4 @@ fn hue_term<S: Scale>(square: Iv<S>, standard: &Standard<S>) -> Iv<S>
     ensures range { UpTo (170 * 10 ^ 6 * S.unit) result }
 {
     square.div(hue_divisor(standard))
-}
-
-/// The square root of the squares of the first two terms plus the term of the hue.
-fn length<S: Scale>(lightness: Iv<S>, chroma: Iv<S>, hue: Iv<S>) -> Iv<S>
-    requires lightness { MagnitudeUpTo (40000 * S.unit) lightness }
-    requires chroma { MagnitudeUpTo (23000 * S.unit) chroma }
-    requires hue { UpTo (170 * 10 ^ 6 * S.unit) hue }
-    ensures is { result
-        ≡ sqrt_at S.unit
-        (sum_of (sum_of (square_at S.unit lightness) (square_at S.unit chroma)) hue) }
-    ensures held { IsHeld result }
-{
-    let both = lightness.square().add(chroma.square());
-    sqrt_iv(both.add(hue))
 }

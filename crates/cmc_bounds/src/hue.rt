@@ -2,8 +2,8 @@ ghost use Rattle.std.specs.Prelude.{◌≡◌, ℕ, ℤ, pos, ◌*◌, ◌^◌, 
 ghost use Rattle.interval_specs.specs.Ends.{one_at};
 ghost use Rattle.interval_specs.specs.Ranges.{MagnitudeUpTo, UpTo, AtLeast};
 ghost use Rattle.interval_specs.specs.Operations.{difference_of};
+ghost use Rattle.lab_parts.specs.Chroma.{IsChroma};
 ghost use Rattle.cmc_specs.specs.Cmc.{along_12, along_35, cosine_magnitude, first_form, hue_factor, hue_sum_15, hue_sum_16, hue_weight, is_inside, is_outside, second_form};
-ghost use Rattle.cmc_bounds.specs.Chroma.{IsChroma};
 
 use crate::angles::{COS_12, COS_15, COS_16, SIN_12, SIN_15, SIN_16, along_35, projection};
 use fix_bounds::{Iv, Scale};

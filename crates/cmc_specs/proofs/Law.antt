@@ -3,15 +3,16 @@ use Rattle.std.proofs.Common.{ℕ, zero, suc, pos, ◌*◌, ◌^◌, ◌≤◌, 
 use Rattle.interval_specs.specs.Ends.{Ends, IsOrdered}
 use Rattle.interval_specs.specs.Encloses.{Encloses}
 use Rattle.interval_specs.specs.Operations.{fraction_of, quotient_at, square_at}
-use Rattle.interval_specs.proofs.Laws.{none_of, quotient_by_nothing_encloses, cut_low_encloses, difference_encloses, fraction_encloses, outer_ordered, quotient_encloses, square_encloses, sum_encloses, sqrt_encloses}
-use Rattle.interval_specs.proofs.Ranges.{cut_low_not_negative, quotient_not_negative, square_not_negative, sum_not_negative, positive}
+use Rattle.interval_specs.proofs.Laws.{none_of, quotient_by_nothing_encloses, difference_encloses, fraction_encloses, outer_ordered, quotient_encloses, square_encloses}
+use Rattle.interval_specs.proofs.Ranges.{quotient_not_negative, positive}
 use Rattle.cielab_bounds.specs.Cielab.{LabEnds}
 use Rattle.cielab_bounds.specs.Formula.{KeepsEnclosing}
 use Rattle.cielab_bounds.specs.Laws.{EnclosesLab}
 use Rattle.interval_specs.specs.Ranges.{AtLeast}
-use Rattle.cmc_specs.specs.Cmc.{chroma_difference, chroma_term, cmc_at, hue_difference_square, hue_term, kept_difference, lightness_term, StandardEnds, standard_at}
+use Rattle.lab_parts.specs.Parts.{chroma_difference, hue_difference_square}
+use Rattle.lab_parts.proofs.Law.{chroma_difference_encloses, hue_difference_encloses, hue_difference_not_negative, length_encloses}
+use Rattle.cmc_specs.specs.Cmc.{chroma_term, cmc_at, hue_term, kept_difference, lightness_term, StandardEnds, standard_at}
 use Rattle.cmc_specs.specs.Laws.{CmcEncloses, EnclosesStandard}
-use Rattle.cmc_specs.proofs.PartLaws.{chroma_encloses}
 use Rattle.cmc_specs.proofs.LeastValues.{chroma_divisor_at_least, hue_weight_square_at_least, lightness_divisor_at_least}
 use Rattle.cmc_specs.proofs.StandardLaw.{standard_weighted, Weighted}
 pub use Rattle.cmc_specs.proofs.StandardLaw.{standard_encloses}
@@ -30,58 +31,44 @@ lightness_term_encloses n m l10 s s' q q' few finer low h k =
     (λ some. positive 509 10000 n (fraction_of l10 10 s.sl) (omega arith) (lightness_divisor_at_least n l10 s.sl few some low))
     (difference_encloses m _ _ _ _ k.l h.l1) h.sl
 
-chroma_difference_encloses : (n m : ℕ) (s s' : StandardEnds) (q q' : LabEnds) → 0 < n → 0 < m → EnclosesStandard m s s' → EnclosesLab m q q' → Encloses m (chroma_difference n s q) (chroma_difference (m * n) s' q')
-chroma_difference_encloses n m s s' q q' some finer h k = difference_encloses m _ _ _ _ (chroma_encloses n m q.a q.b q'.a q'.b some finer k.a k.b) h.c1
-
 chroma_term_encloses : (n m c10 : ℕ) (s s' : StandardEnds) (q q' : LabEnds) → 10 ^ 6 ≤ n → 0 < m → AtLeast 637 1000 n s.sc → EnclosesStandard m s s' → EnclosesLab m q q' → Encloses m (chroma_term n c10 s q) (chroma_term (m * n) c10 s' q')
 unfolding chroma_term
 chroma_term_encloses n m c10 s s' q q' few finer low h k =
     weighted_encloses n m c10 _ _ _ _ finer
     (λ some. positive 636 10000 n (fraction_of c10 10 s.sc) (omega arith) (chroma_divisor_at_least n c10 s.sc few some low))
-    (chroma_difference_encloses n m s s' q q' (omega arith) finer h k) h.sc
-
-hue_difference_square_encloses : (n m : ℕ) (s s' : StandardEnds) (q q' : LabEnds) → 0 < n → 0 < m → EnclosesStandard m s s' → EnclosesLab m q q' → Encloses m (hue_difference_square n s q) (hue_difference_square (m * n) s' q')
-unfolding hue_difference_square
-hue_difference_square_encloses n m s s' q q' some finer h k =
-    let da = square_encloses n m _ _ some finer (difference_encloses m _ _ _ _ k.a h.a1) in
-    let db = square_encloses n m _ _ some finer (difference_encloses m _ _ _ _ k.b h.b1) in
-    let dc = square_encloses n m _ _ some finer (chroma_difference_encloses n m s s' q q' some finer h k) in
-    cut_low_encloses n m (pos 0) _ _ (difference_encloses m _ _ _ _ (sum_encloses m _ _ _ _ da db) dc)
-
-hue_square_not_negative : (n : ℕ) (s : StandardEnds) (q : LabEnds) → pos 0 ≤ℤ (hue_difference_square n s q).lo
-unfolding hue_difference_square
-hue_square_not_negative n s q = cut_low_not_negative n 0 _
+    (chroma_difference_encloses n m s.c1 s'.c1 q q' (omega arith) finer h.c1 k) h.sc
 
 hue_divisor_positive : (n : ℕ) (sh : Ends) → 10 ^ 6 ≤ n → IsOrdered sh → AtLeast 22 100 n sh → pos 0 <ℤ (square_at n sh).lo
 hue_divisor_positive n sh few o low = positive 48 1000 n (square_at n sh) (omega arith) (hue_weight_square_at_least n sh few o low)
+
+-- dH^2
+hue_square_encloses : (n m : ℕ) (s s' : StandardEnds) (q q' : LabEnds) → 0 < n → 0 < m → EnclosesStandard m s s' → EnclosesLab m q q'
+    → Encloses m (hue_difference_square n s.a1 s.b1 (chroma_difference n s.c1 q) q) (hue_difference_square (m * n) s'.a1 s'.b1 (chroma_difference (m * n) s'.c1 q') q')
+hue_square_encloses n m s s' q q' some finer h k = hue_difference_encloses n m _ _ _ _ _ _ q q' some finer h.a1 h.b1 (chroma_difference_encloses n m s.c1 s'.c1 q q' some finer h.c1 k) k
 
 hue_term_encloses : (n m : ℕ) (s s' : StandardEnds) (q q' : LabEnds) → 10 ^ 6 ≤ n → 0 < m → AtLeast 22 100 n s.sh → EnclosesStandard m s s' → EnclosesLab m q q' → Encloses m (hue_term n s q) (hue_term (m * n) s' q')
 unfolding hue_term
 hue_term_encloses n m s s' q q' few finer low h k =
     let some : 0 < n = omega arith in
-    quotient_encloses n m _ _ _ _ finer (hue_divisor_positive n s.sh few (outer_ordered m s.sh s'.sh finer h.sh) low) (hue_difference_square_encloses n m s s' q q' some finer h k) (square_encloses n m _ _ some finer h.sh)
+    quotient_encloses n m _ _ _ _ finer (hue_divisor_positive n s.sh few (outer_ordered m s.sh s'.sh finer h.sh) low) (hue_square_encloses n m s s' q q' some finer h k) (square_encloses n m _ _ some finer h.sh)
 
 hue_term_not_negative : (n m : ℕ) (s s' : StandardEnds) (q q' : LabEnds) → 10 ^ 6 ≤ n → 0 < m → AtLeast 22 100 n s.sh → EnclosesStandard m s s' → EnclosesLab m q q' → pos 0 ≤ℤ (hue_term n s q).lo
 unfolding hue_term
 hue_term_not_negative n m s s' q q' few finer low h k =
     let some : 0 < n = omega arith in
-    quotient_not_negative n (hue_difference_square n s q) (square_at n s.sh)
+    quotient_not_negative n _ (square_at n s.sh)
     (hue_divisor_positive n s.sh few (outer_ordered m s.sh s'.sh finer h.sh) low)
     (outer_ordered m _ _ finer (square_encloses n m s.sh s'.sh some finer h.sh))
-    (hue_square_not_negative n s q)
-    (outer_ordered m _ _ finer (hue_difference_square_encloses n m s s' q q' some finer h k))
+    (hue_difference_not_negative n s.a1 s.b1 _ q)
+    (outer_ordered m _ _ finer (hue_square_encloses n m s s' q q' some finer h k))
 
 -- ---- the difference
 
 kept_encloses : (n m l10 c10 : ℕ) (s s' : StandardEnds) (q q' : LabEnds) → 10 ^ 6 ≤ n → 0 < m → Weighted n s → EnclosesStandard m s s' → EnclosesLab m q q' → Encloses m (kept_difference n l10 c10 s q) (kept_difference (m * n) l10 c10 s' q')
 unfolding kept_difference
 kept_encloses n m l10 c10 s s' q q' few finer w h k =
-    let some : 0 < n = omega arith in
-    let x = square_encloses n m _ _ some finer (lightness_term_encloses n m l10 s s' q q' few finer w.sl h k) in
-    let y = square_encloses n m _ _ some finer (chroma_term_encloses n m c10 s s' q q' few finer w.sc h k) in
-    let z = hue_term_encloses n m s s' q q' few finer w.sh h k in
-    let squares = sum_not_negative _ _ (square_not_negative n (lightness_term n l10 s q) some) (square_not_negative n (chroma_term n c10 s q) some) in
-    sqrt_encloses n m _ _ (sum_not_negative _ _ squares (hue_term_not_negative n m s s' q q' few finer w.sh h k)) (sum_encloses m _ _ _ _ (sum_encloses m _ _ _ _ x y) z)
+    length_encloses n m _ _ _ _ _ _ (omega arith) finer (hue_term_not_negative n m s s' q q' few finer w.sh h k)
+    (lightness_term_encloses n m l10 s s' q q' few finer w.sl h k) (chroma_term_encloses n m c10 s s' q q' few finer w.sc h k) (hue_term_encloses n m s s' q q' few finer w.sh h k)
 
 -- the law for colours of any magnitude and any two weights l and c
 pub any_colours_enclose : (l10 c10 : ℕ) → CmcEncloses l10 c10

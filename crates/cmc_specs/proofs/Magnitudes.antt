@@ -1,18 +1,16 @@
 -- Upper bounds of the values in the difference, from those of the coordinates.
-use Rattle.std.proofs.Common.{ℕ, pos, ◌+◌, ◌*◌, ◌/◌, ◌≤◌, ◌<◌, ◌^◌, ◌*ℤ◌, ◌≤ℤ◌, ◌<ℤ◌, Bool, true, false, cond, unsigned_abs, arith, lit<, mul-le-mul, mul-le-mul_right, add-one-le, ⊎_elim}
-use Rattle.std.proofs.lemmas.Bool.{cases_lt}
+use Rattle.std.proofs.Common.{ℕ, pos, ◌+◌, ◌*◌, ◌/◌, ◌≤◌, ◌<◌, ◌^◌, ◌*ℤ◌, Bool, true, false, cond, unsigned_abs, arith, lit<, mul-le-mul_right, add-one-le}
 use Rattle.std.proofs.lemmas.Int.{ints}
 use Rattle.interval_specs.specs.Ends.{Ends, one_at}
 use Rattle.interval_specs.specs.Ranges.{MagnitudeUpTo, UpTo}
 use Rattle.interval_specs.specs.Rounding.{floor_over, ceil_over}
-use Rattle.interval_specs.specs.Operations.{cut_low_at, difference_of, fraction_of, hull_of, product_at, ratio_at, square_at, sum_of}
-use Rattle.interval_specs.specs.Roots.{square, root_below, sqrt_at}
+use Rattle.interval_specs.specs.Operations.{cut_low_at, difference_of, fraction_of, hull_of, product_at, ratio_at, sum_of}
 use Rattle.interval_specs.proofs.Order.{parts, by_parts, le_pos}
 use Rattle.interval_specs.proofs.Rounds.{ceil_least}
-use Rattle.interval_specs.proofs.Ranges.{floor_not_negative, magnitude_of_up_to, up_to_wider, ratio_up_to, fraction_up_to, square_up_to, sum_up_to, sum_magnitude, difference_magnitude, product_magnitude, product_up_to, cut_low_up_to, hull_up_to, magnitude_wider, sqrt_up_to}
-use Rattle.interval_specs.proofs.Roots.{magnitudes_rise, square_power, below_fits, below_greatest}
+use Rattle.interval_specs.proofs.Ranges.{floor_not_negative, magnitude_of_up_to, up_to_wider, ratio_up_to, fraction_up_to, sum_up_to, sum_magnitude, difference_magnitude, product_magnitude, product_up_to, cut_low_up_to, hull_up_to, magnitude_wider}
+use Rattle.interval_specs.proofs.Roots.{magnitudes_rise}
 use Rattle.cmc_specs.proofs.Shares.{quotients_in_order}
-use Rattle.cmc_specs.specs.Cmc.{along_12, along_35, bracket, chroma_at, chroma_denominator, chroma_gain, chroma_square, chroma_numerator, chroma_weight, cosine_magnitude, first_form, high_weight, hue_weight, is_dark, is_light, lightness_denominator, lightness_numerator, lightness_weight, low_weight, second_form}
+use Rattle.cmc_specs.specs.Cmc.{along_12, along_35, bracket, chroma_denominator, chroma_gain, chroma_numerator, chroma_weight, cosine_magnitude, first_form, high_weight, hue_weight, is_dark, is_light, lightness_denominator, lightness_numerator, lightness_weight, low_weight, second_form}
 
 -- ---- two rounded quotients of natural numbers
 
@@ -37,37 +35,6 @@ unfolding bracket
 bracket_up_to n low h =
     let m = mul-le-mul_right n (add-one-le h) in
     up_to_ends (low * n) (10 ^ 12) ((low + 1) * n) (10 ^ 12) n (lit< tt) (lit< tt) (omega arith) (omega arith)
-
--- ---- chroma
-
-pub chroma_square_up_to : (n : ℕ) (a b : Ends) → 0 < n → MagnitudeUpTo (1000 * n) a → MagnitudeUpTo (1000 * n) b → UpTo (2 * 10 ^ 6 * n) (chroma_square n a b)
-unfolding chroma_square
-chroma_square_up_to n a b some s t =
-    let p = square_up_to n (10 ^ 6 * n) (1000 * n) a some (omega arith) s.small in
-    let q = square_up_to n (10 ^ 6 * n) (1000 * n) b some (omega arith) t.small in
-    up_to_wider (10 ^ 6 * n + 10 ^ 6 * n) (2 * 10 ^ 6 * n) _ (omega arith) (sum_up_to (10 ^ 6 * n) (10 ^ 6 * n) (square_at n a) (square_at n b) p q)
-
-pub chroma_up_to : (n : ℕ) (a b : Ends) → 0 < n → MagnitudeUpTo (1000 * n) a → MagnitudeUpTo (1000 * n) b → UpTo (1415 * n) (chroma_at n a b)
-unfolding chroma_at
-chroma_up_to n a b some s t = sqrt_up_to n (1415 * n) (2 * 10 ^ 6 * n) (chroma_square n a b) (omega arith) (chroma_square_up_to n a b some s t)
-
--- a square root that lies above 0 is at least 1000 n-ths
-pub root_far : (n : ℕ) (x : Ends) → 10 ^ 6 ≤ n → pos 0 <ℤ (sqrt_at n x).lo → pos 1000 ≤ℤ (sqrt_at n x).lo
-unfolding sqrt_at
-root_far n x large above =
-    let k = unsigned_abs x.lo in
-    let r = root_below square (k * n) in
-    let fits = below_fits square square_power (k * n) in
-    let one : 1 ≤ r = omega (arith, ints, above) in
-    let ones = mul-le-mul one one in
-    ⊎_elim
-    (λ l. let none : k * n ≤ 0 * n = mul-le-mul_right n (omega arith) in absurd (omega arith))
-    (λ l. let units = mul-le-mul_right n l in let far = below_greatest square square_power (k * n) 1000 (omega arith) in omega (arith, ints, far))
-    (cases_lt k 1)
-
-pub chroma_far : (n : ℕ) (a b : Ends) → 10 ^ 6 ≤ n → pos 0 <ℤ (chroma_at n a b).lo → pos 1000 ≤ℤ (chroma_at n a b).lo
-unfolding chroma_at
-chroma_far n a b large above = root_far n (chroma_square n a b) large above
 
 -- ---- S_L and S_C
 

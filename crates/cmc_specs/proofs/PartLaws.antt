@@ -1,4 +1,4 @@
--- The laws of the constants, the chroma, S_L, S_C and F.
+-- The laws of the constants, S_L, S_C and F.
 use Rattle.std.proofs.Common.{ℕ, ℤ, pos, ◌≡◌, true, false, ◌+◌, ◌*◌, ◌^◌, ◌<◌, ◌≤ℤ◌, ◌<ℤ◌, unsigned_abs, arith, lit<}
 use Rattle.std.proofs.lemmas.Int.{ints}
 use Rattle.interval_specs.specs.Ends.{Ends}
@@ -6,9 +6,9 @@ use Rattle.interval_specs.specs.Encloses.{Encloses}
 use Rattle.interval_specs.specs.Rounding.{floor_over, ceil_over}
 use Rattle.interval_specs.specs.Operations.{cut_low_at, square_at}
 use Rattle.interval_specs.proofs.Laws.{cut_low_encloses, ratio_encloses, square_encloses, sum_encloses, sqrt_encloses, choice_encloses, le_test, lt_test, le_holds, le_refuses, lt_holds, still_below, still_from}
-use Rattle.interval_specs.proofs.Ranges.{cut_low_not_negative, square_not_negative, sum_not_negative, floor_not_negative, sqrt_not_negative}
+use Rattle.interval_specs.proofs.Ranges.{cut_low_not_negative, square_not_negative, floor_not_negative}
 use Rattle.interval_specs.proofs.Order.{le_pos}
-use Rattle.cmc_specs.specs.Cmc.{bracket, chroma_at, chroma_gain, chroma_square, chroma_weight, fourth_power_share, high_weight, hue_share, is_dark, is_light, lightness_weight, low_weight}
+use Rattle.cmc_specs.specs.Cmc.{bracket, chroma_gain, chroma_weight, fourth_power_share, high_weight, hue_share, is_dark, is_light, lightness_weight, low_weight}
 use Rattle.cmc_specs.proofs.Shares.{quotients_enclose, share_encloses, share_of}
 
 -- ---- constants
@@ -18,24 +18,6 @@ unfolding bracket
 bracket_encloses n m low =
     quotients_enclose m (low * n) (10 ^ 12) ((low + 1) * n) (10 ^ 12) (low * (m * n)) (10 ^ 12) ((low + 1) * (m * n)) (10 ^ 12) (lit< tt) (lit< tt) (lit< tt) (lit< tt)
     (omega arith) (omega arith) (omega arith)
-
--- ---- chroma
-
-pub chroma_square_not_negative : (n : ℕ) (a b : Ends) → 0 < n → pos 0 ≤ℤ (chroma_square n a b).lo
-unfolding chroma_square
-chroma_square_not_negative n a b some = sum_not_negative (square_at n a) (square_at n b) (square_not_negative n a some) (square_not_negative n b some)
-
-pub chroma_square_encloses : (n m : ℕ) (a b a' b' : Ends) → 0 < n → 0 < m → Encloses m a a' → Encloses m b b' → Encloses m (chroma_square n a b) (chroma_square (m * n) a' b')
-unfolding chroma_square
-chroma_square_encloses n m a b a' b' some finer p q = sum_encloses m _ _ _ _ (square_encloses n m a a' some finer p) (square_encloses n m b b' some finer q)
-
-pub chroma_not_negative : (n : ℕ) (a b : Ends) → pos 0 ≤ℤ (chroma_at n a b).lo
-unfolding chroma_at
-chroma_not_negative n a b = sqrt_not_negative n (chroma_square n a b)
-
-pub chroma_encloses : (n m : ℕ) (a b a' b' : Ends) → 0 < n → 0 < m → Encloses m a a' → Encloses m b b' → Encloses m (chroma_at n a b) (chroma_at (m * n) a' b')
-unfolding chroma_at
-chroma_encloses n m a b a' b' some finer p q = sqrt_encloses n m _ _ (chroma_square_not_negative n a b some) (chroma_square_encloses n m a b a' b' some finer p q)
 
 -- ---- S_L
 

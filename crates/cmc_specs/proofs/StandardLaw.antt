@@ -4,10 +4,12 @@ use Rattle.interval_specs.specs.Ends.{IsOrdered}
 use Rattle.interval_specs.proofs.Laws.{encloses_itself, outer_ordered}
 use Rattle.cielab_bounds.specs.Cielab.{LabEnds}
 use Rattle.interval_specs.specs.Ranges.{AtLeast}
-use Rattle.cmc_specs.specs.Cmc.{chroma_at, chroma_square, StandardEnds, standard_at}
+use Rattle.lab_parts.specs.Parts.{chroma_at, chroma_square}
+use Rattle.lab_parts.proofs.Law.{chroma_encloses, chroma_not_negative, chroma_square_encloses}
+use Rattle.cmc_specs.specs.Cmc.{StandardEnds, standard_at}
 use Rattle.cmc_specs.specs.Laws.{StandardEncloses}
 use Rattle.cmc_specs.proofs.HueLaws.{hue_factor_encloses, hue_weight_encloses}
-use Rattle.cmc_specs.proofs.PartLaws.{chroma_encloses, chroma_not_negative, chroma_square_encloses, chroma_weight_encloses, hue_share_encloses, lightness_weight_encloses}
+use Rattle.cmc_specs.proofs.PartLaws.{chroma_weight_encloses, hue_share_encloses, lightness_weight_encloses}
 use Rattle.cmc_specs.proofs.LeastValues.{chroma_weight_at_least, hue_factor_at_least, hue_weight_at_least, lightness_weight_at_least}
 use Rattle.cmc_specs.proofs.UnitRanges.{hue_share_up_to}
 

@@ -7,6 +7,7 @@ use Rattle.interval_specs.specs.Rounding.{floor_over, ceil_over}
 use Rattle.interval_specs.specs.Operations.{absolute_of, cut_high_at, cut_low_at, difference_of, fraction_of, hull_of, product_at, quotient_at, ratio_at, square_at, sum_of}
 use Rattle.interval_specs.specs.Roots.{sqrt_at}
 use Rattle.cielab_bounds.specs.Cielab.{LabEnds}
+use Rattle.lab_parts.specs.Parts.{chroma_at, chroma_difference, chroma_square, hue_difference_square, length_at, lightness_difference}
 
 -- ---- constants
 
@@ -37,16 +38,6 @@ cos16 n = bracket n 961261695938
 
 abbrev pub sin16 : ℕ → Ends
 sin16 n = bracket n 275637355816
-
--- ---- chroma
-
--- C^2 = a^2 + b^2
-unfoldable pub chroma_square : ℕ → Ends → Ends → Ends
-chroma_square n a b = sum_of (square_at n a) (square_at n b)
-
--- C, the square root of C^2
-unfoldable pub chroma_at : ℕ → Ends → Ends → Ends
-chroma_at n a b = sqrt_at n (chroma_square n a b)
 
 -- ---- S_L
 
@@ -197,30 +188,21 @@ standard_at n p =
 
 -- ---- the difference
 
--- dL / (l S_L), where dL = L2 - L1 and l10 is the weight l in tenths
+-- dL / (l S_L), where l10 is the weight l in tenths
 unfoldable pub lightness_term : ℕ → ℕ → StandardEnds → LabEnds → Ends
-lightness_term n l10 s q = quotient_at n (difference_of q.l s.l1) (fraction_of l10 10 s.sl)
+lightness_term n l10 s q = quotient_at n (lightness_difference s.l1 q) (fraction_of l10 10 s.sl)
 
-abbrev pub chroma_difference : ℕ → StandardEnds → LabEnds → Ends
-chroma_difference n s q = difference_of (chroma_at n q.a q.b) s.c1
-
--- dC / (c S_C), where dC = C2 - C1 and c10 is the weight c in tenths
+-- dC / (c S_C), where c10 is the weight c in tenths
 unfoldable pub chroma_term : ℕ → ℕ → StandardEnds → LabEnds → Ends
-chroma_term n c10 s q = quotient_at n (chroma_difference n s q) (fraction_of c10 10 s.sc)
-
--- dH^2 = da^2 + db^2 - dC^2, which is not below 0
-unfoldable pub hue_difference_square : ℕ → StandardEnds → LabEnds → Ends
-hue_difference_square n s q =
-    cut_low_at n (pos 0) (difference_of (sum_of (square_at n (difference_of q.a s.a1)) (square_at n (difference_of q.b s.b1))) (square_at n (chroma_difference n s q)))
+chroma_term n c10 s q = quotient_at n (chroma_difference n s.c1 q) (fraction_of c10 10 s.sc)
 
 -- dH^2 over S_H^2
 unfoldable pub hue_term : ℕ → StandardEnds → LabEnds → Ends
-hue_term n s q = quotient_at n (hue_difference_square n s q) (square_at n s.sh)
+hue_term n s q = quotient_at n (hue_difference_square n s.a1 s.b1 (chroma_difference n s.c1 q) q) (square_at n s.sh)
 
 -- dE of a sample q, from the values of the standard
 unfoldable pub kept_difference : ℕ → (l10 c10 : ℕ) → StandardEnds → LabEnds → Ends
-kept_difference n l10 c10 s q =
-    sqrt_at n (sum_of (sum_of (square_at n (lightness_term n l10 s q)) (square_at n (chroma_term n c10 s q))) (hue_term n s q))
+kept_difference n l10 c10 s q = length_at n (lightness_term n l10 s q) (chroma_term n c10 s q) (hue_term n s q)
 
 -- dE of a standard p and a sample q
 abbrev pub cmc_at : (l10 c10 : ℕ) → ℕ → LabEnds → LabEnds → Ends

@@ -8,27 +8,30 @@ use Rattle.std.proofs.lemmas.Bool.{le-leb, lt-ltb}
 use Rattle.std.proofs.lemmas.List.{append-nil, length-append, length-map}
 use Rattle.std.proofs.lemmas.List.FromFn.{fill_by_all}
 use Rattle.dec_text.specs.RoundTrip.{ReadsBack}
-use Rattle.spectral_tables.specs.Curve.{IsCurve, IsReflectance}
+use Rattle.spectral_tables.specs.Curve.{IsReflectance}
 use Rattle.spectral_tables.specs.CurveBook.{Book}
-use Rattle.spectral_tables.specs.CurveFile.{column_of, curve_table_of, curves_of, curves_under, names_of, next_reflectance, next_row, reflectance_of, row_of, rows_of}
-use Rattle.spectral_tables.specs.Faults.{each}
+use Rattle.spectral_tables.specs.declared.grid.WaveGrid.TheVariants.{Ten}
+use Rattle.spectral_tables.specs.Columns.{columns_of, names_of, next_number, next_row, number_of, row_of, rows_of}
+use Rattle.spectral_tables.specs.CurveFile.{column_of, curve_rule, curve_table_of, curves_under}
+use Rattle.spectral_tables.specs.Faults.{◌>>=◌, each}
 use Rattle.spectral_tables.specs.Numbers.{is_wavelength}
 use Rattle.demo_jobs.specs.Cloths.{indices}
 use Rattle.demo_jobs.specs.CurveText.{curve_record, curve_records, curve_text, percentage}
 use Rattle.demo_jobs.specs.Lines.{number_field, wavelength_field}
+use Rattle.demo_jobs.proofs.ClothFacts.{IsTenCurve}
 use Rattle.demo_jobs.proofs.PlainFields.{ArePlain, IsPlain, number_plain, trims_stay}
 use Rattle.demo_jobs.proofs.RecordsRead.{AreRecords, records_read}
 
 -- each curve of a book is one
 abbrev pub AreCurves : Book → Type 0
 AreCurves [] = Unit {0}
-AreCurves (e ∷ book) = IsCurve e.1 × AreCurves book
+AreCurves (e ∷ book) = IsTenCurve e.1 × AreCurves book
 
 -- the values of a wavelength
 abbrev values : Book → ℕ → List ℕ
 values book index = map (λ e. slice_index e.1 index) book
 
-pub value_at : (curve : List ℕ) (index : ℕ) → IsCurve curve → index < 31 → IsReflectance (slice_index curve index)
+pub value_at : (curve : List ℕ) (index : ℕ) → IsTenCurve curve → index < 31 → IsReflectance (slice_index curve index)
 value_at curve index kept lt = kept.range index 0 (omega (arith, lt, kept.count))
 
 -- ---- the records are plain
@@ -55,45 +58,45 @@ records_plain e book k (suc n) kept le = (record_plain (e ∷ book) k kept (omeg
 module _ (read : ReadsBack) where
   -- ---- a record
 
-  percentage_read : (row column m : ℕ) → IsReflectance m → reflectance_of row column (number_field 4 m) ≡ Ok m
-  unfolding reflectance_of
+  percentage_read : (row column m : ℕ) → IsReflectance m → number_of (curve_rule.range_of []) row column (number_field 4 m) ≡ Ok m
+  unfolding number_of
   percentage_read row column m range =
       let low : nat_le 100 m ≡ true = le-leb 100 m range.0 in
       let high : nat_le m 1000000 ≡ true = le-leb m 1000000 range.1 in
       rw (read 4 (pos m) (omega (arith, range.1)), low, high) refl
 
-  percentages_read : (row index : ℕ) (book : Book) (before : List ℕ) → AreCurves book → index < 31 → each (next_reflectance row) before (map (percentage index) book) ≡ Ok (before ++ values book index)
-  percentages_read row index [] before kept lt = ap Ok (sym (append-nil before))
-  percentages_read row index (e ∷ book) before kept lt =
+  percentages_read : (names : List (List ℕ)) (row index : ℕ) (book : Book) (before : List ℕ) → AreCurves book → index < 31 → each (next_number curve_rule names row) before (map (percentage index) book) ≡ Ok (before ++ values book index)
+  percentages_read names row index [] before kept lt = ap Ok (sym (append-nil before))
+  percentages_read names row index (e ∷ book) before kept lt =
       let m = slice_index e.1 index in
       rw (percentage_read row (length before + 2) m (value_at e.1 index kept.0 lt))
-      (percentages_read row index book (before ++ m ∷ []) kept.1 lt ∙ ap Ok (append_assoc before (m ∷ []) (values book index)))
+      (percentages_read names row index book (before ++ m ∷ []) kept.1 lt ∙ ap Ok (append_assoc before (m ∷ []) (values book index)))
 
   wavelength_read : (index : ℕ) → index < 31 → is_wavelength (400 + 10 * index) (wavelength_field index) ≡ true
   unfolding is_wavelength
   wavelength_read index lt = rw (read 0 (pos (400 + 10 * index)) (omega arith)) (eq-eqb (400 + 10 * index) (400 + 10 * index) refl)
 
-  record_read : (book : Book) (columns index : ℕ) → columns ≡ length book + 1 → AreCurves book → index < 31 → row_of columns index (curve_record book index) ≡ Ok (values book index)
+  record_read : (book : Book) (names : List (List ℕ)) (index : ℕ) → length names ≡ length book → AreCurves book → index < 31 → row_of curve_rule Ten names index (curve_record book index) ≡ Ok (values book index)
   unfolding row_of curve_record
-  record_read book columns index count kept lt =
+  record_read book names index count kept lt =
       let index_fits : nat_lt index 31 ≡ true = lt-ltb index 31 lt in
-      let as_many : (length (wavelength_field index ∷ map (percentage index) book) == columns) ≡ true = eq-eqb _ columns (omega (arith, count, length-map book (percentage index))) in
-      rw (index_fits, as_many, wavelength_read index lt) (percentages_read (index + 2) index book [] kept lt)
+      let as_many : (length (wavelength_field index ∷ map (percentage index) book) == length names + 1) ≡ true = eq-eqb _ (length names + 1) (omega (arith, count, length-map book (percentage index))) in
+      rw (index_fits, as_many, wavelength_read index lt) (percentages_read names (index + 2) index book [] kept lt)
 
-  rows_read : (book : Book) (columns k n : ℕ) (before : List (List ℕ)) → columns ≡ length book + 1 → AreCurves book → length before ≡ k → k + n ≤ 31
-      → each (next_row columns) before (map (curve_record book) (range_with_len k n)) ≡ Ok (before ++ map (values book) (range_with_len k n))
-  rows_read book columns k zero before count kept at le = ap Ok (sym (append-nil before))
-  rows_read book columns k (suc n) before count kept at le =
+  rows_read : (book : Book) (names : List (List ℕ)) (k n : ℕ) (before : List (List ℕ)) → length names ≡ length book → AreCurves book → length before ≡ k → k + n ≤ 31
+      → each (next_row curve_rule Ten names) before (map (curve_record book) (range_with_len k n)) ≡ Ok (before ++ map (values book) (range_with_len k n))
+  rows_read book names k zero before count kept at le = ap Ok (sym (append-nil before))
+  rows_read book names k (suc n) before count kept at le =
       let lt : k < 31 = omega arith in
       let this = values book k in
-      let here : row_of columns k (curve_record book k) ≡ Ok this = record_read book columns k count kept lt in
-      let there = rows_read book columns (k + 1) n (before ++ this ∷ []) count kept (omega (arith, length-append before (this ∷ []))) (omega arith) in
+      let here : row_of curve_rule Ten names k (curve_record book k) ≡ Ok this = record_read book names k count kept lt in
+      let there = rows_read book names (k + 1) n (before ++ this ∷ []) count kept (omega (arith, length-append before (this ∷ []))) (omega arith) in
       rw (trims_stay (curve_record book k) (record_plain book k kept lt), at, here) (there ∙ ap Ok (append_assoc before (this ∷ []) (map (values book) (range_with_len (k + 1) n))))
 
-  all_rows : (book : Book) (columns : ℕ) → columns ≡ length book + 1 → AreCurves book → rows_of columns (map (curve_record book) indices) ≡ Ok (map (values book) indices)
+  all_rows : (book : Book) (names : List (List ℕ)) → length names ≡ length book → AreCurves book → rows_of curve_rule Ten names (map (curve_record book) indices) ≡ Ok (map (values book) indices)
   unfolding rows_of indices
-  all_rows book columns count kept =
-      rw (rows_read book columns 0 31 [] count kept refl (omega arith)) refl
+  all_rows book names count kept =
+      rw (rows_read book names 0 31 [] count kept refl (omega arith)) refl
 
   -- ---- the columns
 
@@ -106,7 +109,7 @@ module _ (read : ReadsBack) where
   column before e rest [] = refl
   column before e rest (p ∷ ps) = λ i. after_others before e rest p i ∷ column before e rest ps i
 
-  whole_curve : (curve : List ℕ) → IsCurve curve → map (λ index. slice_index curve index) indices ≡ curve
+  whole_curve : (curve : List ℕ) → IsTenCurve curve → map (λ index. slice_index curve index) indices ≡ curve
   unfolding indices
   whole_curve curve kept = sym (fill_by_all (λ index. slice_index curve index) curve 31 0 kept.count (λ k lt. refl))
 
@@ -121,13 +124,13 @@ module _ (read : ReadsBack) where
 
   -- ---- the file
 
-  pub book_read : (e : List ℕ × List ℕ) (book : Book) → AreCurves (e ∷ book) → ArePlain (keys_of (e ∷ book)) → names_of (codes "nm" ∷ keys_of (e ∷ book)) ≡ Ok (keys_of (e ∷ book))
-      → curve_table_of (curve_text (e ∷ book)) ≡ Ok (e ∷ book)
-  unfolding curve_text curve_records curves_of indices
+  pub book_read : (e : List ℕ × List ℕ) (book : Book) → AreCurves (e ∷ book) → ArePlain (keys_of (e ∷ book)) → names_of curve_rule (codes "nm" ∷ keys_of (e ∷ book)) ≡ Ok (keys_of (e ∷ book))
+      → curve_table_of Ten (curve_text (e ∷ book)) ≡ Ok (e ∷ book)
+  unfolding curve_text curve_records curve_table_of columns_of indices
   book_read e book kept plain names =
       let whole = e ∷ book in
       let records = map (curve_record whole) (range_with_len 0 31) in
       let split = records_read e.0 (keys_of book) records plain (records_plain e book 0 31 kept (omega arith)) in
       let header = trims_stay (codes "nm" ∷ keys_of whole) (((refl, (refl, tt)), plain)) in
-      let rows = all_rows whole (length (keys_of whole) + 1) (ap (λ n. n + 1) (length-map whole (λ x. x.0))) kept in
-      ap curves_of split ∙ rw (header, names, rows) (ap Ok (columns_are [] whole kept))
+      let rows = all_rows whole (keys_of whole) (length-map whole (λ x. x.0)) kept in
+      ap (λ table. columns_of curve_rule Ten table >>= (λ columns. Ok (curves_under [] columns.rows columns.names))) split ∙ rw (header, names, rows) (ap Ok (columns_are [] whole kept))

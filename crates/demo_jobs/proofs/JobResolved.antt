@@ -8,9 +8,11 @@ use Rattle.interval_specs.specs.Ends.{Ends}
 use Rattle.interval_specs.specs.Ranges.{UpTo}
 use Rattle.interval_specs.proofs.Laws.{lt_refuses}
 use Rattle.mix_model.specs.Base.{base_at}
-use Rattle.mix_model.specs.Mixture.{mixture_ks_at, portions}
+use Rattle.mix_model.specs.Mixture.{mixture_ks_at, no_steps}
+use Rattle.mix_model.specs.Strength.{is_too_strong}
+use Rattle.price_grid.specs.Grid.{IsUpTo}
 use Rattle.job_file.specs.Arrays.{each}
-use Rattle.job_file.specs.Resolve.{is_too_strong, most_steps, next_calibrated, resolved_job}
+use Rattle.job_file.specs.Resolve.{limits_of, most_steps, next_calibrated, resolved_job, up_to_most}
 use Rattle.demo_jobs.specs.declared.dyes.DrawnDye.{DrawnDye}
 use Rattle.demo_jobs.specs.Cloths.{substrate}
 use Rattle.demo_jobs.specs.CurveText.{dye_book, dye_name, dyeing_name, job_book}
@@ -32,14 +34,19 @@ all_most : (dyes : List DrawnDye) → All (λ n. n ≤ 400) (most_steps (map job
 all_most [] = All-nil (λ n. n ≤ 400)
 all_most (dye ∷ dyes) = All-cons (λ n. n ≤ 400) 400 (most_steps (map job_dye dyes)) (omega arith) (all_most dyes)
 
-weak : (draws : List ℕ) → is_too_strong substrate (map dye_data (drawn_dyes draws)) (most_steps (map job_dye (drawn_dyes draws))) ≡ false
+none_up_to : (dyes : List DrawnDye) → IsUpTo (no_steps (map dye_data dyes)) (most_steps (map job_dye dyes))
+none_up_to [] = tt
+none_up_to (dye ∷ dyes) = (omega arith, none_up_to dyes)
+
+weak : (draws bath : List ℕ) → is_too_strong (base_at (10 ^ 12) substrate) (up_to_most (map dye_data (drawn_dyes draws)) bath (most_steps (map job_dye (drawn_dyes draws)))) ≡ false
 unfolding is_too_strong
-weak draws =
+weak draws bath =
     let n = 10 ^ 12 in
-    let steps = most_steps (map job_dye (drawn_dyes draws)) in
-    let qs = mixture_ks_at n (base_at n substrate) (portions (map dye_data (drawn_dyes draws)) steps steps) in
-    list_any_none (λ q. int_lt (pos (10 ^ 6 * 10 ^ 12)) q.hi) qs (All-weaker (UpTo (200000 * n)) (λ q. int_lt (pos (10 ^ 6 * 10 ^ 12)) q.hi ≡ false) not_above qs (recipe_small n (drawn_dyes draws) steps (six_dyes draws) (all_most (drawn_dyes draws))))
+    let dyes = drawn_dyes draws in
+    let sums = mixture_ks_at n (base_at n substrate) (up_to_most (map dye_data dyes) bath (most_steps (map job_dye dyes))) in
+    list_any_none (λ q. int_lt (pos (10 ^ 6 * 10 ^ 12)) q.hi) sums (All-weaker (UpTo (200000 * n)) (λ q. int_lt (pos (10 ^ 6 * 10 ^ 12)) q.hi ≡ false) not_above sums
+    (recipe_small n dyes bath (no_steps (map dye_data dyes)) (most_steps (map job_dye dyes)) (six_dyes draws) (none_up_to dyes) (all_most dyes)))
 
 pub job_resolved : (draws : List ℕ) → resolved_job (job_book draws) (job_values (drawn_dyes draws)) both_weights ≡ Ok (resolved_of draws)
 unfolding resolved_job job_book
-job_resolved draws = rw (dyes_found draws, weak draws) refl
+job_resolved draws = rw (dyes_found draws, weak draws (limits_of (job_values (drawn_dyes draws))).bath) refl

@@ -6,6 +6,7 @@ use Rattle.std.specs.List.{list_all}
 use Rattle.std.proofs.lemmas.Bool.{and_parts}
 use Rattle.dec_text.specs.Decimal.{body_value, decimal_of, magnitude_of, number_of}
 use Rattle.dec_text.specs.FixedPoint.{behind_point, fixed_text, last_digits, unsigned_text}
+use Rattle.spectral_tables.specs.declared.grid.WaveGrid.TheVariants.{Ten}
 use Rattle.spectral_tables.specs.Fold.{fold_of}
 use Rattle.spectral_tables.specs.Run.{due_wavelength}
 use Rattle.spectral_tables.specs.Trim.{trim_end, trim_start}
@@ -43,12 +44,12 @@ plain Second = refl
 
 -- ---- and are read
 
-from_records : (light : Light) → weights_of (weights_records light) ≡ Ok (weight_table light)
+from_records : (light : Light) → weights_of Ten (weights_records light) ≡ Ok (weight_table light)
 unfolding weight_table weights_records weights_at white_of indices fixed_text unsigned_text behind_point last_digits digits weights_of weights_from with_row due_wavelength read_white closed_of weight_of decimal_of body_value number_of magnitude_of trim_start trim_end fold_of column_sum magnitude_sum
 from_records First = refl
 from_records Second = refl
 
-pub weights_read : (light : Light) → weight_table_of (weights_text light) ≡ Ok (weight_table light)
+pub weights_read : (light : Light) → weight_table_of Ten (weights_text light) ≡ Ok (weight_table light)
 unfolding weights_text weights_records
 weights_read light =
-    ap weights_of (records_read (codes "X") (codes "Y" ∷ codes "Z" ∷ []) (after_header light) ((refl, tt), ((refl, tt), ((refl, tt), tt))) (records_by (after_header light) (plain light))) ∙ from_records light
+    ap (weights_of Ten) (records_read (codes "X") (codes "Y" ∷ codes "Z" ∷ []) (after_header light) ((refl, tt), ((refl, tt), ((refl, tt), tt))) (records_by (after_header light) (plain light))) ∙ from_records light

@@ -1,6 +1,6 @@
 //! The curves of the undyed cloth and of the dyeings.
 
-ghost use Rattle.std.specs.Prelude.{◌≡◌, ◌≤◌, ◌<◌};
+ghost use Rattle.std.specs.Prelude.{◌≡◌, ◌≤◌, ◌<◌, length};
 ghost use Rattle.spectral_tables.specs.Curve.{IsCurve, IsReflectance};
 ghost use Rattle.demo_jobs.specs.Cloths.{dyed, dyed_at, strength, substrate, substrate_at, triangle};
 ghost use Rattle.demo_jobs.specs.Dyes.{IsDrawn};
@@ -58,6 +58,7 @@ fn dyed_at(dye: &DrawnDye, units: u32, index: u32) -> u32
 pub(crate) fn substrate() -> Curve
     ensures is { result ≡ substrate }
     ensures held { IsCurve result }
+    ensures waves { length result ≡ 31 }
 {
     let mut millionths: ArrayVec<u32, 31> = ArrayVec::new();
     for index in 0..WAVES {
@@ -73,6 +74,7 @@ pub(crate) fn dyed(dye: &DrawnDye, units: u32) -> Curve
     requires range { IsDrawn dye.now }
     ensures is { result ≡ dyed dye.now units }
     ensures held { IsCurve result }
+    ensures waves { length result ≡ 31 }
 {
     let mut millionths: ArrayVec<u32, 31> = ArrayVec::new();
     for index in 0..WAVES {

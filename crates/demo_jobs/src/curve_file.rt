@@ -1,6 +1,6 @@
 //! The text of the curve file.
 
-ghost use Rattle.std.specs.Prelude.{◌≡◌, ◌<◌, ◌++◌, ◌∷◌, IfOk, OnOk, codes};
+ghost use Rattle.std.specs.Prelude.{◌≡◌, ◌<◌, ◌++◌, ◌∷◌, All, IfOk, OnOk, codes, length};
 ghost use Rattle.std.specs.Map.{keys_of};
 ghost use Rattle.demo_jobs.specs.CurveText.{book_of, curve_record, curve_text};
 ghost use Rattle.demo_jobs.specs.Lines.{line};
@@ -26,7 +26,8 @@ fn push_header(text: &mut Vec<u8>, book: &[(String, Curve)]) -> Result<(), Alloc
 /// Appends the record of a wavelength: its field, and the reflectance of each curve in percent.
 #[tactic(auto, unfolding(crate::specs::CurveText::curve_record))]
 fn push_record(text: &mut Vec<u8>, book: &[(String, Curve)], index: u32) -> Result<(), AllocError>
-    requires { index < 31 }
+    requires index { index < 31 }
+    requires waves { All (λ e. length e.1 ≡ 31) book.now }
     ensures { OnOk result (text.new.items
         ≡ text.old.items ++ line (curve_record (book_of book.now) index)) }
 {
@@ -41,6 +42,7 @@ fn push_record(text: &mut Vec<u8>, book: &[(String, Curve)], index: u32) -> Resu
 /// The text of the curve file with these curves.
 #[tactic(auto, unfolding(crate::specs::CurveText::curve_text))]
 pub(crate) fn curve_text(alloc: Global, book: &[(String, Curve)]) -> Result<Vec<u8>, AllocError>
+    requires { All (λ e. length e.1 ≡ 31) book.now }
     ensures { IfOk result (λ text. text.items ≡ curve_text (book_of book.now)) }
 {
     let mut text = Vec::new(alloc);

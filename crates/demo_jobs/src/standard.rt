@@ -1,19 +1,20 @@
 //! The curve that is to be matched: the hidden recipe, mixed on the undyed cloth.
 
-ghost use Rattle.std.specs.Prelude.{◌≡◌, ◌≤◌, ◌^◌, All, IfOk, length, map};
+ghost use Rattle.std.specs.Prelude.{◌≡◌, ◌≤◌, All, IfOk, length, map};
 ghost use Rattle.interval_specs.specs.Ranges.{UpTo};
 ghost use Rattle.ks_curves.specs.Dye.{IsDyeing};
 ghost use Rattle.spectral_tables.specs.Curve.{IsReflectance};
 ghost use Rattle.demo_jobs.specs.Dyes.{IsDrawn};
 ghost use Rattle.demo_jobs.specs.Standard.{dye_data, measured, standard, standard_at};
+ghost use Rattle.fix_bounds.specs.Scales.{base_unit};
 
 use crate::cloths::{WAVES, dyed, substrate};
 use crate::dyes::DrawnDye;
 use arrayvec::ArrayVec;
 use fix_bounds::{Base, Iv};
-use ks_curves::Dye;
-use mix_model::{BaseCurve, mix};
-use spectral_tables::{Curve, Spectrum};
+use ks_curves::{Calibration, Dye};
+use mix_model::{BaseCurve, mix, no_steps};
+use spectral_tables::{Curve, MOST_WAVES, Spectrum};
 use std::alloc::{AllocError, Global};
 
 /// The dyeings of each dye: the number of each, and its units of dye.
@@ -43,7 +44,7 @@ fn calibrated(dye: &DrawnDye) -> Dye
     for (_, units) in DYEINGS {
         dyeings.push(measured(dye, units));
     }
-    Dye::of(STEP, substrate(), dyeings)
+    Dye::of(Calibration::Line, STEP, substrate(), dyeings)
 }
 
 /// The dyes, calibrated.
@@ -60,7 +61,7 @@ fn all_calibrated(alloc: Global, dyes: &[DrawnDye]) -> Result<Vec<Dye>, AllocErr
 
 /// The lower end of a reflectance, in whole millionths, rounded down: at least 100.
 fn standard_at(reflectance: Iv<Base>) -> u32
-    requires { UpTo (10 ^ 12) reflectance }
+    requires { UpTo base_unit reflectance }
     ensures is { result ≡ standard_at reflectance }
     ensures range { IsReflectance result }
 {
@@ -71,7 +72,7 @@ fn standard_at(reflectance: Iv<Base>) -> u32
 fn curve_of(spectrum: &Spectrum<Base>) -> Curve
     ensures { result ≡ map standard_at spectrum.now }
 {
-    let mut millionths: ArrayVec<u32, 31> = ArrayVec::new();
+    let mut millionths: ArrayVec<u32, MOST_WAVES> = ArrayVec::new();
     for index in 0..spectrum.waves() {
         millionths.push(standard_at(spectrum.at(index)));
     }
@@ -89,5 +90,7 @@ pub(crate) fn standard(alloc: Global, dyes: &[DrawnDye], steps: &[u16]) -> Resul
 {
     let base: BaseCurve<Base> = BaseCurve::of(&substrate());
     let dyes = all_calibrated(alloc, dyes)?;
-    Ok(curve_of(&mix(&base, dyes.as_slice(), steps, steps)))
+    let bath = no_steps(dyes.as_slice());
+    let spectrum = mix(&base, dyes.as_slice(), bath.as_slice(), steps, steps);
+    Ok(curve_of(&spectrum))
 }

@@ -1,6 +1,6 @@
 use demo_jobs::{Demo, make};
 use job_file::{BatchRule, read_job, resolve};
-use spectral_tables::{CurveBook, Weights, read_curves, read_weights};
+use spectral_tables::{CurveBook, TABLE_LIMIT, WaveGrid, Weights, read_curves, read_weights};
 use std::alloc::Global;
 use std::test::Fail;
 
@@ -26,17 +26,17 @@ fn tables(rt: HostRuntime) -> Result<(), Fail> {
 }
 
 fn book(alloc: Global, text: &[u8]) -> Option<CurveBook> {
-    if text.len() > 1_000_000 {
+    if text.len() as u64 > TABLE_LIMIT {
         return None;
     }
-    read_curves(alloc, text).ok()
+    read_curves(alloc, text, WaveGrid::Ten).ok()
 }
 
 fn weights(alloc: Global, text: &[u8]) -> Option<Weights> {
-    if text.len() > 1_000_000 {
+    if text.len() as u64 > TABLE_LIMIT {
         return None;
     }
-    read_weights(alloc, text).ok()
+    read_weights(alloc, text, WaveGrid::Ten).ok()
 }
 
 // The prices of the dyes of a generated job, whose files are accepted.

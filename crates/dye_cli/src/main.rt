@@ -5,12 +5,27 @@
 use dye_run::run;
 use shelf_io::{RealShelf, RealSink};
 use std::alloc::Global;
+use std::fs::File;
 use std::process::ExitCode;
-use std::rt::Env;
-use std::{env, io};
+use std::rt::{Env, Files};
+use std::{env, fs, io};
 
 /// The status where memory runs out while the words are read.
 const OUT_OF_MEMORY: u8 = 10;
+
+/// The status where the standard streams cannot be guarded.
+const NOT_WRITTEN: u8 = 4;
+
+// Three descriptors that only read from nothing. Opened before any other file, and kept open, they
+// take the place of closed standard streams: no file of a command gets the number of a stream, and
+// a report that is written to a closed standard output fails.
+fn guard_streams<R: Files<File = File>>(rt: &R) -> io::Result<[File; 3]> {
+    Ok([
+        fs::open(rt, "/dev/null")?,
+        fs::open(rt, "/dev/null")?,
+        fs::open(rt, "/dev/null")?,
+    ])
+}
 
 // The words after the program's name. Where one of them is not UTF-8 the result is an error, and
 // `main` goes on as if there were no words: the usage text is printed.
@@ -23,6 +38,9 @@ fn words_of<R: Env + AllocGlobal>(rt: &R) -> io::Result<Vec<String>> {
 }
 
 fn main(rt: HostRuntime) -> ExitCode {
+    let Ok(_guards) = guard_streams(&rt) else {
+        return ExitCode::from(NOT_WRITTEN);
+    };
     let words = match words_of(&rt) {
         Ok(words) => words,
         Err(error) if error.kind() == io::ErrorKind::OutOfMemory => {

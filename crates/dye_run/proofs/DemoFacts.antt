@@ -31,6 +31,7 @@ use Rattle.dye_run.specs.Views.{bytes_view}
 use Rattle.dye_run.specs.declared.jobs.FilesRead.{FilesRead}
 use Rattle.dye_run.specs.declared.stop.Stop.{Stop}
 use Rattle.dye_run.proofs.Headline.{is_valid}
+use Rattle.spectral_tables.specs.declared.records.TheConstants.{TABLE_LIMIT}
 
 module _ (drawn text curves first second : List ℕ) (a : IsAccepted drawn text curves first second) where
   abbrev values : Values
@@ -91,18 +92,18 @@ gives_no_refusal view (Err why) step x e gives = not_refused (stop_outcome why) 
 
 -- ---- the files of a generated job fit it
 
-short_curves : (bytes_read : Option (Vec ℕ)) (text : List ℕ) → bytes_view bytes_read ≡ Some text → length text ≤ 1000000 → ForSome bytes_read (λ bytes. length bytes.items ≤ 1000000)
+short_curves : (bytes_read : Option (Vec ℕ)) (text : List ℕ) → bytes_view bytes_read ≡ Some text → length text ≤ 1000000 → ForSome bytes_read (λ bytes. length bytes.items ≤ TABLE_LIMIT)
 short_curves bytes_read text e h = λ x is.
     let both : bytes_view (Some x) ≡ Some text = ap bytes_view (sym is) ∙ e in
     let same : x.items ≡ text = cc in
-    subst (λ t. length t ≤ 1000000) (sym same) h
+    subst (λ t. length t ≤ TABLE_LIMIT) (sym same) h
 
-short_bytes_read : (bytes_read : Option (Vec ℕ)) (text : List ℕ) → bytes_view bytes_read ≡ Some text → length text ≤ 1000000 → IfSome bytes_read (λ bytes. length bytes.items ≤ 1000000)
-short_bytes_read (Some b) text e h = let same : b.items ≡ text = cc in subst (λ t. length t ≤ 1000000) (sym same) h
+short_bytes_read : (bytes_read : Option (Vec ℕ)) (text : List ℕ) → bytes_view bytes_read ≡ Some text → length text ≤ 1000000 → IfSome bytes_read (λ bytes. length bytes.items ≤ TABLE_LIMIT)
+short_bytes_read (Some b) text e h = let same : b.items ≡ text = cc in subst (λ t. length t ≤ TABLE_LIMIT) (sym same) h
 short_bytes_read None text e h = tt
 
 abbrev IsShort : Option (Vec ℕ) → Type 0
-IsShort c = IfSome c (λ bytes. length bytes.items ≤ 1000000)
+IsShort c = IfSome c (λ bytes. length bytes.items ≤ TABLE_LIMIT)
 
 two_files_read : (bytes_read : List (Option (Vec ℕ))) (first second : List ℕ) → map bytes_view bytes_read ≡ Some first ∷ Some second ∷ [] → length first ≤ 1000000 → length second ≤ 1000000 → (length bytes_read ≡ 2) × All IsShort bytes_read
 two_files_read [] first second e h k = absurd (let f : [] ≡ Some first ∷ Some second ∷ [] = e in cc)

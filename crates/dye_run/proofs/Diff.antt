@@ -4,7 +4,8 @@ use Rattle.std.proofs.Common.{◌*◌, ℕ, List, [], ◌∷◌, Option, Some, N
 use Rattle.std.proofs.lemmas.List.Elements.{All-cons}
 use Rattle.cmc_specs.proofs.Law.{any_colours_enclose}
 use Rattle.spectral_tables.specs.WeightTable.{WeightTable}
-use Rattle.dye_run.specs.Answers.{Evaluation, StandsFiner, base_unit}
+use Rattle.dye_run.specs.Answers.{Evaluation, StandsFiner}
+use Rattle.fix_bounds.specs.Scales.{base_unit}
 use Rattle.dye_run.specs.Colours.{curve_lab}
 use Rattle.dye_run.specs.Diff.{DiffWords, curve_difference, difference_evaluation, difference_report, diff_report}
 use Rattle.dye_run.specs.Inputs.{Tables, curve_from}

@@ -9,9 +9,11 @@ use Rattle.dye_run.specs.Answers.{Report}
 use Rattle.dye_run.specs.Asking.{Answers, Asking, answers, asks, held_or_missing, result_of}
 use Rattle.dye_run.specs.Due.{CanBeRead, up_to_limit}
 use Rattle.dye_run.specs.Headline.{IsJobOfFiles}
-use Rattle.dye_run.specs.Inputs.{◌>>=◌, table_limit}
-use Rattle.dye_run.specs.Jobs.{CertTables, JobTables, asks_cert, asks_cert_tables, asks_each, asks_job, cert_limit, cert_tables_from, job_from, job_tables_from, light_files, resolved_from, resolved_then, unless_faulty_job, unless_too_long}
+use Rattle.dye_run.specs.Inputs.{◌>>=◌}
+use Rattle.dye_run.specs.Jobs.{CertTables, JobTables, asks_cert, asks_cert_tables, asks_each, asks_job, cert_tables_from, job_from, job_tables_from, light_files, resolved_from, resolved_then, unless_faulty_job, unless_too_long}
 use Rattle.dye_run.specs.Outcome.{Fault, Outcome, outcome_of, refused, reported, too_long}
+use Rattle.spectral_tables.specs.declared.records.TheConstants.{TABLE_LIMIT}
+use Rattle.box_cert.specs.declared.read.TheConstants.{CERT_LIMIT}
 
 -- ---- over known files
 
@@ -32,7 +34,7 @@ result_from contents c (asks name limit next) o e w =
 -- ---- the job that was read
 
 each_file_read : (contents : Option Contents) (names : List (List ℕ)) (next : List (Option (List ℕ)) → Asking) (o : Outcome) → Answers contents (asks_each names next) o
-    → (bytes_read : List (Option (List ℕ))) × AllZip (λ file c. CanBeRead contents file table_limit c) names bytes_read × Answers contents (next bytes_read) o
+    → (bytes_read : List (Option (List ℕ))) × AllZip (λ file c. CanBeRead contents file TABLE_LIMIT c) names bytes_read × Answers contents (next bytes_read) o
 unfolding asks_each
 each_file_read contents [] next o w = ([], tt, w)
 each_file_read contents (name ∷ names) next o w =
@@ -95,7 +97,7 @@ ok_tables j cert curves weights text t e = of_tables cert (job_tables_from j cur
 
 -- a report over a job's files and a certificate is one on the job and the text that were read
 pub job_cert_read : (contents : Option Contents) (rule : BatchRule) (name cert : List ℕ) (judged : ResolvedJob → List ℕ → Result Report Fault) (report : Report) → Answers contents (asks_cert rule name cert judged) (reported report)
-    → (r : ResolvedJob) × (text : List ℕ) × IsJobOfFiles contents rule name r × CanBeRead contents cert cert_limit (Some text) × (judged r text ≡ Ok report)
+    → (r : ResolvedJob) × (text : List ℕ) × IsJobOfFiles contents rule name r × CanBeRead contents cert CERT_LIMIT (Some text) × (judged r text ≡ Ok report)
 job_cert_read contents rule name cert judged report w =
     let job = after_job contents (job_from rule name w.0) _ report w.2 in
     let files = job.2 in
@@ -119,13 +121,13 @@ job_cert_read contents rule name cert judged report w =
         read = parts.0;
         resolved = resolved.1;
       },
-      subst (λ text. CanBeRead contents cert cert_limit text) parts.1 last.1,
+      subst (λ text. CanBeRead contents cert CERT_LIMIT text) parts.1 last.1,
       resolved.2,
     )
 
 -- ---- the other direction: a job that was read with a certificate
 
-each_answers : (contents : Option Contents) (names : List (List ℕ)) (next : List (Option (List ℕ)) → Asking) (o : Outcome) (bytes_read : List (Option (List ℕ))) → AllZip (λ file c. CanBeRead contents file table_limit c) names bytes_read
+each_answers : (contents : Option Contents) (names : List (List ℕ)) (next : List (Option (List ℕ)) → Asking) (o : Outcome) (bytes_read : List (Option (List ℕ))) → AllZip (λ file c. CanBeRead contents file TABLE_LIMIT c) names bytes_read
     → Answers contents (next bytes_read) o → Answers contents (asks_each names next) o
 unfolding asks_each
 each_answers contents [] next o [] all w = w
@@ -138,7 +140,7 @@ both_tables : (j : Values) (cert : List ℕ) (curves : Option (List ℕ)) (weigh
 unfolding cert_tables_from
 both_tables j cert curves weights tables text e = ap (λ x. x >>= (λ x. unless_too_long cert (Some text) >>= (λ y. Ok (record { tables = x; text = y })))) e
 
-pub cert_answers : (contents : Option Contents) (rule : BatchRule) (name cert text : List ℕ) (judged : ResolvedJob → List ℕ → Result Report Fault) (report : Report) (r : ResolvedJob) → IsJobOfFiles contents rule name r → CanBeRead contents cert cert_limit (Some text)
+pub cert_answers : (contents : Option Contents) (rule : BatchRule) (name cert text : List ℕ) (judged : ResolvedJob → List ℕ → Result Report Fault) (report : Report) (r : ResolvedJob) → IsJobOfFiles contents rule name r → CanBeRead contents cert CERT_LIMIT (Some text)
     → judged r text ≡ Ok report → Answers contents (asks_cert rule name cert judged) (reported report)
 cert_answers contents rule name cert text judged report r bytes_read from_files is =
     let next : Values → Asking = λ j. asks_cert_tables j cert (resolved_then name j judged) in

@@ -11,6 +11,7 @@ use Rattle.box_cert.specs.Text.{cert_of}
 use Rattle.box_specs.specs.Validity.{first_failure}
 use Rattle.box_specs.specs.declared.certificate.CertFault.{CertFault}
 use Rattle.box_specs.specs.declared.certificate.Why.{Why}
+use Rattle.cert_check.proofs.Exact.{nothing_fails, valid_if}
 use Rattle.cert_check.proofs.Sound.{means}
 use Rattle.cert_laws.proofs.Searched.{result_is_first, result_is_read, result_is_short, result_is_valid, result_means}
 use Rattle.cert_laws.specs.Laws.{content_of}
@@ -31,8 +32,7 @@ use Rattle.dye_run.specs.Due.{CanBeRead, up_to_limit}
 use Rattle.dye_run.specs.Endings.{IsSearchable, Leaves, World, with_written}
 use Rattle.dye_run.specs.Forms.{check, correct, demo, form_of, predict}
 use Rattle.dye_run.specs.Headline.{Confirms, Finds, IsJobOfFiles, IsSearchStatus, SaysOfRecipes, Summarises}
-use Rattle.dye_run.specs.Inputs.{table_limit}
-use Rattle.dye_run.specs.Jobs.{asks_cert, asks_job, cert_limit, job_from, job_limit, light_files, unless_broken}
+use Rattle.dye_run.specs.Jobs.{asks_cert, asks_job, job_from, light_files, unless_broken}
 use Rattle.dye_run.specs.Outcome.{conclusion_status, grammar, invalid, outcome_of, reported, too_long}
 use Rattle.dye_run.specs.Outcome as outcome
 use Rattle.dye_run.specs.Search.{conclusion_of, result_for, result_report, search_report}
@@ -45,6 +45,9 @@ use Rattle.dye_run.proofs.ShowLaws.{differences_enclose}
 use Rattle.job_laws.proofs.Accepted.{files_are_no_certs}
 use Rattle.job_laws.proofs.Either.{accepts_either}
 use Rattle.job_laws.specs.Laws.{IsNoCert}
+use Rattle.spectral_tables.specs.declared.records.TheConstants.{TABLE_LIMIT}
+use Rattle.box_cert.specs.declared.read.TheConstants.{CERT_LIMIT}
+use Rattle.dye_run.specs.declared.jobs.TheConstants.{JOB_LIMIT}
 
 -- ---- files after a certificate was written
 
@@ -97,18 +100,18 @@ module _ (cert text : List ℕ) (before after : Option Contents) (written : afte
   cert_known limit short (Some c) = subst (λ b. IsSomeAnd (if b then Some text else c.file cert) (λ bytes. Some text ≡ up_to_limit limit bytes)) (sym (own_name cert)) short
 
   -- the certificate can be read
-  cert_can_be_read : length text ≤ cert_limit → CanBeRead after cert cert_limit (Some text)
+  cert_can_be_read : length text ≤ CERT_LIMIT → CanBeRead after cert CERT_LIMIT (Some text)
   cert_can_be_read short = record {
     short = short;
-    known = subst (λ c. IfSome c (λ c. IsSomeAnd (c.file cert) (λ bytes. Some text ≡ up_to_limit cert_limit bytes))) (sym written) (cert_known cert_limit (short_is_whole cert_limit text short) before);
+    known = subst (λ c. IfSome c (λ c. IsSomeAnd (c.file cert) (λ bytes. Some text ≡ up_to_limit CERT_LIMIT bytes))) (sym written) (cert_known CERT_LIMIT (short_is_whole CERT_LIMIT text short) before);
   }
 
-  all_still_read : (names : List (List ℕ)) (bytes_read : List (Option (List ℕ))) → ends_as_cert cert ≡ true → All IsNoCert names → AllZip (λ file c. CanBeRead before file table_limit c) names bytes_read → AllZip (λ file c. CanBeRead after file table_limit c) names bytes_read
+  all_still_read : (names : List (List ℕ)) (bytes_read : List (Option (List ℕ))) → ends_as_cert cert ≡ true → All IsNoCert names → AllZip (λ file c. CanBeRead before file TABLE_LIMIT c) names bytes_read → AllZip (λ file c. CanBeRead after file TABLE_LIMIT c) names bytes_read
   all_still_read [] [] is none all = all
   all_still_read [] (c ∷ bytes_read) is none all = absurd all
   all_still_read (name ∷ names) [] is none all = absurd all
   all_still_read (name ∷ names) (c ∷ bytes_read) is none all =
-      (still_read name table_limit c (other_name name cert (All-head IsNoCert name names none) is) all.0, all_still_read names bytes_read is (All-tail IsNoCert name names none) all.1)
+      (still_read name TABLE_LIMIT c (other_name name cert (All-head IsNoCert name names none) is) all.0, all_still_read names bytes_read is (All-tail IsNoCert name names none) all.1)
 
   -- a job of the files is still one by the rule of a check
   job_still_read : (rule : BatchRule) (name : List ℕ) (r : ResolvedJob) → IsNoCert name → ends_as_cert cert ≡ true → IsJobOfFiles before rule name r → IsJobOfFiles after Either name r
@@ -120,8 +123,8 @@ module _ (cert text : List ℕ) (before after : Option Contents) (written : afte
         curves_bytes = bytes_read.curves_bytes;
         weights_bytes = bytes_read.weights_bytes;
         tables = bytes_read.tables;
-        job = still_read name job_limit bytes_read.job_bytes (other_name name cert none is) bytes_read.job;
-        curves = still_read bytes_read.values.head.curves table_limit bytes_read.curves_bytes (other_name bytes_read.values.head.curves cert files.1 is) bytes_read.curves;
+        job = still_read name JOB_LIMIT bytes_read.job_bytes (other_name name cert none is) bytes_read.job;
+        curves = still_read bytes_read.values.head.curves TABLE_LIMIT bytes_read.curves_bytes (other_name bytes_read.values.head.curves cert files.1 is) bytes_read.curves;
         weights = all_still_read (light_files bytes_read.values) bytes_read.weights_bytes is files.2 bytes_read.weights;
         accepted = files.0;
         read = bytes_read.read;
@@ -132,7 +135,9 @@ module _ (cert text : List ℕ) (before after : Option Contents) (written : afte
 
 pub is_valid : (r : ResolvedJob) → IsSearchable r → valid_from r (content_of (result_for r)) ≡ Ok (content_of (result_for r))
 unfolding valid_from
-is_valid r h = ap (unless_failing (content_of (result_for r))) (result_is_valid (recipe_land r) h.lawful r.job.head.budget).holds
+is_valid r h =
+    let c = content_of (result_for r) in
+    ap (unless_failing c) (nothing_fails (recipe_land r) h.lawful.top c.claim c.listed c.lines (result_is_valid (recipe_land r) h.lawful r.job.head.budget))
 
 is_spelled : (r : ResolvedJob) → IsSearchable r → cert_from (length (recipe_land r).top.lo) (cert_text (content_of (result_for r))) ≡ Ok (content_of (result_for r))
 unfolding cert_from
@@ -156,7 +161,7 @@ module _ (rule : BatchRule) (words : CertWords) (kept : AreCertWords words) (bef
       let h : IsSearchable r = subst (λ x. IfSome x.recipes IsSearchable) (sym is) searched in
       let text = cert_text (content_of s) in
       let written : after.shelf.contents ≡ option_map (write_bytes words.cert text) before.shelf.contents = leaves.contents ∙ ap (λ x. with_written x.written before.shelf.contents) (sym is) in
-      let short : length text ≤ cert_limit = (let e = result_is_short (recipe_land r) h.lawful r.job.head.budget h.budget in omega (arith, e)) in
+      let short : length text ≤ CERT_LIMIT = (let e = result_is_short (recipe_land r) h.lawful r.job.head.budget h.budget in omega (arith, e)) in
       record {
         job = r;
         claim = s.claim;
@@ -214,7 +219,7 @@ module _ (words : CertWords) (before after : World) (report : Report) where
         from_files = bytes_read.2;
         text_from_file = bytes_read.3;
         spells = spells;
-        valid = record { whole = whole; holds = holds.0 };
+        valid = valid_if (recipe_land r) h.lawful.top content.claim content.listed content.lines whole holds.0;
         means = means (recipe_land r) content.claim content.listed content.lines h.lawful whole holds.0;
         printed = leaves.taken ∙ ap (λ x. append_known before.sink.taken x.text) (sym is) ∙ ap (λ c. append_known before.sink.taken (accepted_text c.claim)) (sym holds.1);
       }

@@ -5,6 +5,7 @@ use Rattle.std.proofs.Math.Seq.{drop-cons}
 use Rattle.std.proofs.lemmas.List.{drop_all, get_or-map}
 use Rattle.job_file.specs.declared.light.JobLight.{JobLight}
 use Rattle.spectral_tables.specs.CurveBook.{Book, IsBook, wave_count}
+use Rattle.spectral_tables.specs.declared.grid.WaveGrid.TheVariants.{Ten}
 use Rattle.spectral_tables.specs.WeightFile.{weight_table_of}
 use Rattle.spectral_tables.specs.WeightTable.{IsWeightTable, WeightTable}
 use Rattle.dye_run.specs.Inputs.{◌>>=◌, table_from}
@@ -27,12 +28,12 @@ file_at lights k light name h is e = e ∙ ap (λ l. l.weights) is ∙ sym (get_
 
 module _ (lights : List JobLight) (bytes_read : List (Option (Vec ℕ))) (k : ℕ) (before : List WeightTable) (light : JobLight) (first : Option (Vec ℕ)) (hl : k < length lights) (hc : k < length bytes_read) (is_light : light ≡ get_or lights k light) (is_first : first ≡ get_or bytes_read k first) where
   weights_next : weights_after before (map (λ l. l.weights) (drop k lights)) (map bytes_view (drop k bytes_read))
-      ≡ (table_from weight_table_of light.weights (bytes_view first) >>= (λ t. weights_after (before ++ t ∷ []) (map (λ l. l.weights) (drop (k + 1) lights)) (map bytes_view (drop (k + 1) bytes_read))))
+      ≡ (table_from (weight_table_of Ten) light.weights (bytes_view first) >>= (λ t. weights_after (before ++ t ∷ []) (map (λ l. l.weights) (drop (k + 1) lights)) (map bytes_view (drop (k + 1) bytes_read))))
   unfolding weights_after
   weights_next = λ i. weights_after before (map (λ l. l.weights) (items_from lights k light hl is_light i)) (map bytes_view (items_from bytes_read k first hc is_first i))
 
   -- one more weights file was read: the others are read after its weights too
-  pub weights_more : (t : WeightTable) (more : List WeightTable) {whole : Result (List WeightTable) Fault} → table_from weight_table_of light.weights (bytes_view first) ≡ Ok t → more ≡ before ++ t ∷ []
+  pub weights_more : (t : WeightTable) (more : List WeightTable) {whole : Result (List WeightTable) Fault} → table_from (weight_table_of Ten) light.weights (bytes_view first) ≡ Ok t → more ≡ before ++ t ∷ []
       → weights_after before (map (λ l. l.weights) (drop k lights)) (map bytes_view (drop k bytes_read)) ≡ whole
       → weights_after more (map (λ l. l.weights) (drop (k + 1) lights)) (map bytes_view (drop (k + 1) bytes_read)) ≡ whole
   weights_more t more read grown so_far =
@@ -40,7 +41,7 @@ module _ (lights : List JobLight) (bytes_read : List (Option (Vec ℕ))) (k : �
       ap (λ m. weights_after m (map (λ l. l.weights) (drop (k + 1) lights)) (map bytes_view (drop (k + 1) bytes_read))) grown ∙ sym (ap (λ r. r >>= rest) read) ∙ sym weights_next ∙ so_far
 
   -- where one weights file is refused, all are, with its fault
-  pub weights_fault : (why : Option Outcome) {whole : Result (List WeightTable) Fault} → IfSome why (λ o. (fault : Fault) × (o ≡ refused fault) × (table_from weight_table_of light.weights (bytes_view first) ≡ Err fault))
+  pub weights_fault : (why : Option Outcome) {whole : Result (List WeightTable) Fault} → IfSome why (λ o. (fault : Fault) × (o ≡ refused fault) × (table_from (weight_table_of Ten) light.weights (bytes_view first) ≡ Err fault))
       → weights_after before (map (λ l. l.weights) (drop k lights)) (map bytes_view (drop k bytes_read)) ≡ whole
       → IfSome why (λ o. (fault : Fault) × (o ≡ refused fault) × (whole ≡ Err fault))
   weights_fault (Some o) refuses so_far =
@@ -53,8 +54,3 @@ pub weights_all : (lights : List JobLight) (bytes_read : List (Option (List ℕ)
     → weights_after before (map (λ l. l.weights) (drop k lights)) bytes_read ≡ whole → whole ≡ Ok before
 unfolding weights_after
 weights_all lights bytes_read k before h so_far = sym so_far ∙ ap (λ ls. weights_after before (map (λ l. l.weights) ls) bytes_read) (drop_all k lights h)
-
--- weights have as many wavelengths as the curves of a book
-pub book_waves : (book : Book) (w : WeightTable) → IsBook book → IsWeightTable w → length w.weights ≡ wave_count book
-book_waves [] w b h = absurd (let none = b.some in omega (arith, none))
-book_waves (first ∷ rest) w b h = h.count ∙ sym (b.curves 0 first (omega arith)).count

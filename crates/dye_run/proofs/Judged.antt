@@ -10,11 +10,12 @@ use Rattle.dye_run.specs.Answers as spec
 use Rattle.dye_run.specs.Asking.{Answers, Asking}
 use Rattle.dye_run.specs.Due.{CanBeRead, FailsToRead}
 use Rattle.dye_run.specs.Endings.{Reaches}
-use Rattle.dye_run.specs.Inputs.{◌>>=◌, Tables, asks_tables, table_limit}
+use Rattle.dye_run.specs.Inputs.{◌>>=◌, Tables, asks_tables}
 use Rattle.dye_run.specs.Judging.{Gives, IsInput, Stops, StopsAt, stop_outcome}
 use Rattle.dye_run.specs.Outcome.{Fault, Outcome, outcome_of, refusal_outcome, refused, unreadable}
 use Rattle.dye_run.specs.declared.cert_files.WithCert.{WithCert}
 use Rattle.dye_run.specs.declared.stop.Stop.{Stop}
+use Rattle.spectral_tables.specs.declared.records.TheConstants.{TABLE_LIMIT}
 
 -- a step that refuses its input has the refusal as outcome
 refused_outcome : {Y : Type 0} (asking : Asking) (judged : Y → Result spec.Report Fault) (before after : ShelfView) (why : Option Outcome) (step : Result Y Fault)
@@ -39,7 +40,7 @@ cert_input asking judged before after (Ok w) step text from_files gives same =
     from_files (outcome_of (judged (resolved_view w.resolved) w.text.items)) (ap (λ t. outcome_of (judged (resolved_view w.resolved) t)) same ∙ sym (ap (λ s. outcome_of (s >>= (λ r. judged r text))) gives))
 cert_input asking judged before after (Err why) step text from_files gives same = refused_outcome asking (λ r. judged r text) before after (stop_outcome why) step from_files gives
 
-unreadable_second : (curves weights : List ℕ) (before mid after : ShelfView) (bytes_read : Option (List ℕ)) (why : Option Outcome) → OnlyReads (λ n. n ≡ curves) before mid → CanBeRead before.contents curves table_limit bytes_read
+unreadable_second : (curves weights : List ℕ) (before mid after : ShelfView) (bytes_read : Option (List ℕ)) (why : Option Outcome) → OnlyReads (λ n. n ≡ curves) before mid → CanBeRead before.contents curves TABLE_LIMIT bytes_read
     → IfSome why (λ o. (o ≡ unreadable weights) × FailsToRead mid after weights)
     → (judged : Tables → Result spec.Report Fault) → IfSome why (λ o. Reaches (asks_tables curves weights judged) before after o)
 unreadable_second curves weights before mid after bytes_read (Some o) effect from_files stops = λ judged.
@@ -57,7 +58,7 @@ unreadable_second curves weights before mid after bytes_read (Some o) effect fro
 unreadable_second curves weights before mid after bytes_read None effect from_files stops = λ judged. tt
 
 -- the read of the second of two due files failed, or memory ran out
-pub stops_second : (curves weights : List ℕ) (before mid after : ShelfView) (bytes_read : Option (List ℕ)) (why : Stop) → OnlyReads (λ n. n ≡ curves) before mid → CanBeRead before.contents curves table_limit bytes_read → StopsAt weights mid after why
+pub stops_second : (curves weights : List ℕ) (before mid after : ShelfView) (bytes_read : Option (List ℕ)) (why : Stop) → OnlyReads (λ n. n ≡ curves) before mid → CanBeRead before.contents curves TABLE_LIMIT bytes_read → StopsAt weights mid after why
     → (judged : Tables → Result spec.Report Fault) → Stops (asks_tables curves weights judged) before after why
 stops_second curves weights before mid after bytes_read why effect from_files stops = unreadable_second curves weights before mid after bytes_read (stop_outcome why) effect from_files stops
 

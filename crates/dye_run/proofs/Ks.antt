@@ -6,7 +6,8 @@ use Rattle.interval_specs.specs.Ends.{Ends}
 use Rattle.ks_curves.specs.KubelkaMunk.{ks_at}
 use Rattle.ks_curves.proofs.ContributionLaws.{ks_encloses}
 use Rattle.spectral_tables.specs.CurveBook.{Book}
-use Rattle.dye_run.specs.Answers.{StandsFiner, base_unit, evaluation, line, lines_of}
+use Rattle.dye_run.specs.Answers.{StandsFiner, evaluation, line, lines_of}
+use Rattle.fix_bounds.specs.Scales.{base_unit}
 use Rattle.dye_run.specs.Inputs.{curve_from}
 use Rattle.dye_run.specs.Ks.{KsWords, ks_evaluations, ks_report}
 use Rattle.dye_run.specs.Outcome.{outcome_of}

@@ -9,14 +9,15 @@ use Rattle.shelf_io.specs.View.{ShelfView}
 use Rattle.dye_run.specs.Asking.{Answers, Asking, IsDue, asks}
 use Rattle.dye_run.specs.Due.{CanBeRead, FailsToRead}
 use Rattle.dye_run.specs.Endings.{Reaches}
-use Rattle.dye_run.specs.Inputs.{table_limit}
 use Rattle.job_file.specs.Job.{Values}
 use Rattle.job_file.specs.declared.top.BatchRule.{BatchRule}
-use Rattle.dye_run.specs.Jobs.{asks_accepted, asks_each, job_from, job_limit, unless_faulty_job}
+use Rattle.dye_run.specs.Jobs.{asks_accepted, asks_each, job_from, unless_faulty_job}
 use Rattle.dye_run.specs.Judging.{GoesOn, Stops, StopsAt, StopsHaving, stop_outcome}
 use Rattle.dye_run.specs.Outcome.{Outcome, unreadable}
 use Rattle.dye_run.specs.declared.stop.Stop.{Stop}
 use Rattle.dye_run.proofs.DueReads.{first_read, then_read}
+use Rattle.spectral_tables.specs.declared.records.TheConstants.{TABLE_LIMIT}
+use Rattle.dye_run.specs.declared.jobs.TheConstants.{JOB_LIMIT}
 
 -- nothing has been read yet
 pub goes_nowhere : (asking : Asking) (view : ShelfView) → GoesOn asking asking view view
@@ -97,11 +98,11 @@ asks_from names k bytes_read next = asks_each (drop k names) (λ rest. next (byt
 
 -- where a file is left, it is due next, and then the files after it
 pub next_file : (names : List (List ℕ)) (k : ℕ) (bytes_read : List (Option (List ℕ))) (next : List (Option (List ℕ)) → Asking) → k < length names
-    → asks_from names k bytes_read next ≡ asks (get_or names k []) table_limit (λ first. asks_from names (k + 1) (bytes_read ++ first ∷ []) next)
+    → asks_from names k bytes_read next ≡ asks (get_or names k []) TABLE_LIMIT (λ first. asks_from names (k + 1) (bytes_read ++ first ∷ []) next)
 unfolding asks_each
 next_file names k bytes_read next h =
     ap (λ ns. asks_each ns (λ rest. next (bytes_read ++ rest))) (drop-cons names k [] h)
-    ∙ (λ i. asks (get_or names k []) table_limit (λ first. asks_each (drop (sym (add-one k) i) names) (λ rest. next (sym (append_assoc bytes_read (first ∷ []) rest) i))))
+    ∙ (λ i. asks (get_or names k []) TABLE_LIMIT (λ first. asks_each (drop (sym (add-one k) i) names) (λ rest. next (sym (append_assoc bytes_read (first ∷ []) rest) i))))
 
 -- where no file is left, the rest of the command follows
 pub no_file : (names : List (List ℕ)) (k : ℕ) (bytes_read : List (Option (List ℕ))) (next : List (Option (List ℕ)) → Asking) → length names ≤ k → asks_from names k bytes_read next ≡ next bytes_read
@@ -110,32 +111,32 @@ no_file names k bytes_read next h = ap (λ ns. asks_each ns (λ rest. next (byte
 
 module _ (asking : Asking) (names : List (List ℕ)) (k : ℕ) (bytes_read : List (Option (List ℕ))) (next : List (Option (List ℕ)) → Asking) (name : List ℕ) (before mid now : ShelfView) where
   -- the next file is the one of this name
-  here : k < length names → name ≡ get_or names k [] → asks_from names k bytes_read next ≡ asks name table_limit (λ first. asks_from names (k + 1) (bytes_read ++ first ∷ []) next)
-  here h is = next_file names k bytes_read next h ∙ ap (λ n. asks n table_limit (λ first. asks_from names (k + 1) (bytes_read ++ first ∷ []) next)) (sym is)
+  here : k < length names → name ≡ get_or names k [] → asks_from names k bytes_read next ≡ asks name TABLE_LIMIT (λ first. asks_from names (k + 1) (bytes_read ++ first ∷ []) next)
+  here h is = next_file names k bytes_read next h ∙ ap (λ n. asks n TABLE_LIMIT (λ first. asks_from names (k + 1) (bytes_read ++ first ∷ []) next)) (sym is)
 
   -- it has been read
   pub files_more : (first : Option (List ℕ)) (more : List (Option (List ℕ))) → k < length names → name ≡ get_or names k [] → more ≡ bytes_read ++ first ∷ []
-      → OnlyReads (λ n. n ≡ name) mid now → HandsOut name (table_limit + 1) mid now → CanBeRead mid.contents name table_limit first
+      → OnlyReads (λ n. n ≡ name) mid now → HandsOut name (TABLE_LIMIT + 1) mid now → CanBeRead mid.contents name TABLE_LIMIT first
       → GoesOn asking (asks_from names k bytes_read next) before mid → GoesOn asking (asks_from names (k + 1) more next) before now
   files_more first more h is grown effect handed from_files g =
       let rest : Option (List ℕ) → Asking = λ first. asks_from names (k + 1) (bytes_read ++ first ∷ []) next in
-      let one : GoesOn (asks name table_limit rest) (rest first) mid now = goes_on name table_limit rest first mid now effect handed from_files in
-      let both : GoesOn asking (rest first) before now = goes_further asking (asks name table_limit rest) (rest first) before mid now (subst (λ a. GoesOn asking a before mid) (here h is) g) one in
+      let one : GoesOn (asks name TABLE_LIMIT rest) (rest first) mid now = goes_on name TABLE_LIMIT rest first mid now effect handed from_files in
+      let both : GoesOn asking (rest first) before now = goes_further asking (asks name TABLE_LIMIT rest) (rest first) before mid now (subst (λ a. GoesOn asking a before mid) (here h is) g) one in
       subst (λ m. GoesOn asking (asks_from names (k + 1) m next) before now) (sym grown) both
 
   -- the read of the next file failed, or memory ran out
-  pub files_stop : (why : Stop) → k < length names → name ≡ get_or names k [] → OnlyReads (λ n. n ≡ name) mid now → HandsOut name (table_limit + 1) mid now → StopsAt name mid now why
+  pub files_stop : (why : Stop) → k < length names → name ≡ get_or names k [] → OnlyReads (λ n. n ≡ name) mid now → HandsOut name (TABLE_LIMIT + 1) mid now → StopsAt name mid now why
       → GoesOn asking (asks_from names k bytes_read next) before mid → StopsHaving asking before now why
   files_stop why h is effect handed s g =
       let rest : Option (List ℕ) → Asking = λ first. asks_from names (k + 1) (bytes_read ++ first ∷ []) next in
-      having_from asking (asks name table_limit rest) before mid now why (subst (λ a. GoesOn asking a before mid) (here h is) g) (stops_first name table_limit rest mid now why effect handed s)
+      having_from asking (asks name TABLE_LIMIT rest) before mid now why (subst (λ a. GoesOn asking a before mid) (here h is) g) (stops_first name TABLE_LIMIT rest mid now why effect handed s)
 
   -- memory ran out, and after the files so far none but the next one was read
-  pub files_after : (why : Stop) → k < length names → name ≡ get_or names k [] → OnlyReads (λ n. n ≡ name) mid now → HandsOut name (table_limit + 1) mid now → stop_outcome why ≡ None
+  pub files_after : (why : Stop) → k < length names → name ≡ get_or names k [] → OnlyReads (λ n. n ≡ name) mid now → HandsOut name (TABLE_LIMIT + 1) mid now → stop_outcome why ≡ None
       → GoesOn asking (asks_from names k bytes_read next) before mid → StopsHaving asking before now why
   files_after why h is effect handed none g =
       let rest : Option (List ℕ) → Asking = λ first. asks_from names (k + 1) (bytes_read ++ first ∷ []) next in
-      having_from asking (asks name table_limit rest) before mid now why (subst (λ a. GoesOn asking a before mid) (here h is) g) (stops_after name table_limit rest mid now why effect handed none)
+      having_from asking (asks name TABLE_LIMIT rest) before mid now why (subst (λ a. GoesOn asking a before mid) (here h is) g) (stops_after name TABLE_LIMIT rest mid now why effect handed none)
 
 -- all have been read
 pub files_all : (asking : Asking) (names : List (List ℕ)) (k : ℕ) (bytes_read : List (Option (List ℕ))) (next : List (Option (List ℕ)) → Asking) (before now : ShelfView) → length names ≤ k
@@ -145,11 +146,11 @@ files_all asking names k bytes_read next before now h g = subst (λ a. GoesOn as
 -- ---- a curve file, and then others
 
 abbrev pub asks_after : List ℕ → List (List ℕ) → (Option (List ℕ) → List (Option (List ℕ)) → Asking) → Asking
-asks_after curves names finish = asks curves table_limit (λ bytes_read. asks_each names (finish bytes_read))
+asks_after curves names finish = asks curves TABLE_LIMIT (λ bytes_read. asks_each names (finish bytes_read))
 
-module _ (curves name : List ℕ) (same : curves ≡ name) (names files : List (List ℕ)) (equal : names ≡ files) (finish : Option (List ℕ) → List (Option (List ℕ)) → Asking) (bytes_read : Option (List ℕ)) (before mid after : ShelfView) (effect : OnlyReads (λ n. n ≡ curves) before mid) (handed : HandsOut curves (table_limit + 1) before mid) (from_files : CanBeRead before.contents curves table_limit bytes_read) where
+module _ (curves name : List ℕ) (same : curves ≡ name) (names files : List (List ℕ)) (equal : names ≡ files) (finish : Option (List ℕ) → List (Option (List ℕ)) → Asking) (bytes_read : Option (List ℕ)) (before mid after : ShelfView) (effect : OnlyReads (λ n. n ≡ curves) before mid) (handed : HandsOut curves (TABLE_LIMIT + 1) before mid) (from_files : CanBeRead before.contents curves TABLE_LIMIT bytes_read) where
   curves_go_on : GoesOn (asks_after curves names finish) (asks_each names (finish bytes_read)) before mid
-  curves_go_on = goes_on curves table_limit (λ c. asks_each names (finish c)) bytes_read before mid effect handed from_files
+  curves_go_on = goes_on curves TABLE_LIMIT (λ c. asks_each names (finish c)) bytes_read before mid effect handed from_files
 
   -- one of the others stopped the command
   pub rest_stops : (why : Stop) → StopsHaving (asks_each names (finish bytes_read)) mid after why → StopsHaving (asks_after name files finish) before after why
@@ -170,8 +171,8 @@ stops_owned asking before after why owned (inr none) s = let P : Option Outcome 
 
 -- a job was read and accepted by itself: the files that it names are due next
 pub accepted : (rule : BatchRule) (name : List ℕ) (next : Values → Asking) (bytes_read : Option (List ℕ)) (j : Values) (before now : ShelfView) → job_from rule name bytes_read ≡ Ok j
-    → OnlyReads (λ n. n ≡ name) before now → HandsOut name (job_limit + 1) before now → CanBeRead before.contents name job_limit bytes_read
+    → OnlyReads (λ n. n ≡ name) before now → HandsOut name (JOB_LIMIT + 1) before now → CanBeRead before.contents name JOB_LIMIT bytes_read
     → GoesOn (asks_accepted rule name next) (next j) before now
 accepted rule name next bytes_read j before now is effect handed from_files =
-    let onwards : GoesOn (asks_accepted rule name next) (unless_faulty_job (job_from rule name bytes_read) next) before now = goes_on name job_limit (λ c. unless_faulty_job (job_from rule name c) next) bytes_read before now effect handed from_files in
+    let onwards : GoesOn (asks_accepted rule name next) (unless_faulty_job (job_from rule name bytes_read) next) before now = goes_on name JOB_LIMIT (λ c. unless_faulty_job (job_from rule name c) next) bytes_read before now effect handed from_files in
     subst (λ r. GoesOn (asks_accepted rule name next) (unless_faulty_job r next) before now) is onwards

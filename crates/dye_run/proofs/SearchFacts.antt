@@ -13,7 +13,7 @@ use Rattle.box_specs.specs.declared.certificate.Claim.{Claim}
 use Rattle.box_specs.specs.declared.certificate.Claim.TheVariants.{Floor, Match, NoMatch}
 use Rattle.box_search.specs.Result.{SearchResult}
 use Rattle.box_search.specs.declared.outcome.Outcome.{Outcome}
-use Rattle.cert_check.proofs.Sound.{means}
+use Rattle.cert_check.proofs.Sound.{valid_means}
 use Rattle.job_file.specs.Resolve.{ResolvedJob}
 use Rattle.price_grid.specs.Grid.{IsRecipe}
 use Rattle.price_grid.specs.declared.dye_cost.DyeCost.{DyeCost}
@@ -38,7 +38,7 @@ claim_in_grid r listed (Floor cost) m = tt
 
 module _ (r : ResolvedJob) (lawful : IsLawful (recipe_land r)) (claim : Claim) (listed : List (List ℕ)) (lines : List CertLine) (valid : IsValid (recipe_land r) claim listed lines) where
   meaning : Means (recipe_land r) listed claim
-  meaning = means (recipe_land r) claim listed lines lawful valid.whole valid.holds
+  meaning = valid_means (recipe_land r) claim listed lines lawful valid
 
   -- the recipes of a valid certificate are of the grid
   pub claimed_recipe_fits : IfSome (claimed_recipe claim) (IsRecipe r.grid)

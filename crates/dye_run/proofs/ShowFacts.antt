@@ -13,7 +13,7 @@ use Rattle.recipe_judge.specs.Land.{IsLand}
 use Rattle.shade_report.specs.Recipes.{FitsJob}
 use Rattle.spectral_tables.specs.Spectrum.{spectrum_at}
 use Rattle.spectral_tables.specs.WeightTable.{WeightTable}
-use Rattle.dye_run.specs.Answers.{base_unit}
+use Rattle.fix_bounds.specs.Scales.{base_unit}
 use Rattle.dye_run.specs.Show.{recipe_values, verdicts_from}
 use Rattle.dye_run.proofs.JobTables.{items_from}
 

@@ -12,7 +12,7 @@ use Rattle.job_file.specs.declared.light.JobLight.{JobLight}
 use Rattle.job_file.specs.Resolve.{ResolvedJob, base_curve}
 use Rattle.ks_curves.specs.Dye.{DyeData}
 use Rattle.metamerism.specs.Difference.{colour_under}
-use Rattle.mix_model.specs.Mixture.{portions}
+use Rattle.mix_model.specs.Mixture.{Portion, dosed, doses_of, portions}
 use Rattle.mix_model.proofs.MixtureLaws.{any_mixture_encloses}
 use Rattle.recipe_judge.specs.Evaluation.{differences_at, differences_under, spectrum_of}
 use Rattle.spectral_tables.specs.Laws.{EnclosesWaves}
@@ -21,19 +21,22 @@ use Rattle.spectral_tables.specs.WeightTable.{WeightTable}
 use Rattle.spectral_tables.proofs.SpectrumLaws.{spectrum_encloses}
 use Rattle.tristimulus.specs.Ratios.{ratios_at}
 use Rattle.tristimulus.proofs.RatioLaws.{ratio_not_negative, ratios_enclose}
-use Rattle.dye_run.specs.Answers.{StandsFiner, base_unit}
+use Rattle.dye_run.specs.Answers.{StandsFiner}
+use Rattle.fix_bounds.specs.Scales.{base_unit}
 use Rattle.dye_run.specs.Outcome.{outcome_of}
 use Rattle.dye_run.specs.Show.{ShowWords, light_evaluation, light_evaluations, recipe_from, show_report}
 use Rattle.dye_run.proofs.Colours.{no_more}
 use Rattle.dye_run.proofs.Proper.{IsProper, proper_report, proper_then}
 use Rattle.dye_run.proofs.Verdicts.{stands}
 
--- in the portions of one recipe, taken as a box, the fewest steps are at most the most
-one_recipe : (dyes : List DyeData) (recipe : List ℕ) → All (λ p. p.fewest ≤ p.most) (portions dyes recipe recipe)
-unfolding portions
-one_recipe [] recipe = λ k d h. absurd (omega arith)
-one_recipe (dye ∷ dyes) [] = λ k d h. absurd (omega arith)
-one_recipe (dye ∷ dyes) (n ∷ recipe) = All-cons (λ p. p.fewest ≤ p.most) (record { dye = dye; fewest = n; most = n }) (portions dyes recipe recipe) (omega arith) (one_recipe dyes recipe)
+-- in the portions of one recipe, taken as a box, the least units are at most the most
+one_recipe : (dyes : List DyeData) (bath recipe : List ℕ) → All (λ p. p.from ≤ p.upto) (portions dyes bath recipe recipe)
+unfolding dosed doses_of
+one_recipe [] bath recipe = λ k d h. absurd (omega arith)
+one_recipe (dye ∷ dyes) [] recipe = λ k d h. absurd (omega arith)
+one_recipe (dye ∷ dyes) (b ∷ bath) [] = λ k d h. absurd (omega arith)
+one_recipe (dye ∷ dyes) (b ∷ bath) (n ∷ recipe) =
+    All-cons (λ (p : Portion). p.from ≤ p.upto) (record { dye = dye; bath = b * dye.step; from = n * dye.step; upto = n * dye.step }) (portions dyes bath recipe recipe) (omega arith) (one_recipe dyes bath recipe)
 
 -- the colour of a spectrum under weights keeps enclosing where the scale grows from n to m * n
 colour_encloses : (n m : ℕ) (weights : WeightTable) (spectrum finer : List Ends) → 0 < m → EnclosesWaves m spectrum finer → EnclosesLab m (colour_under weights n spectrum) (colour_under weights (m * n) finer)
@@ -50,7 +53,7 @@ light_stands r recipe number light weights =
     any_colours_enclose light.l10 light.c10 base_unit m _ _ _ _ (lit≤ tt) some
     (colour_encloses base_unit m weights (spectrum_at base_unit r.standard) (spectrum_at (m * base_unit) r.standard) some (spectrum_encloses base_unit m r.standard))
     (colour_encloses base_unit m weights (spectrum_of base_unit r recipe recipe) (spectrum_of (m * base_unit) r recipe recipe) some
-    (any_mixture_encloses base_unit m curve (portions r.dyes recipe recipe) (lit≤ tt) some (one_recipe r.dyes recipe))))
+    (any_mixture_encloses base_unit m curve (portions r.dyes r.limits.bath recipe recipe) (lit≤ tt) some (one_recipe r.dyes r.limits.bath recipe))))
 
 pub lights_stand : (r : ResolvedJob) (recipe : List ℕ) (number : ℕ) (lights : List JobLight) (tables : List WeightTable) → All StandsFiner (light_evaluations r recipe number lights tables)
 unfolding light_evaluations

@@ -3,6 +3,7 @@ use Rattle.std.proofs.Common.{◌≡◌, ◌⊎◌, ℕ, List, length, Option, S
 use Rattle.shelf_io.specs.Contents.{Contents}
 use Rattle.shelf_io.specs.Counts.{IsRaised}
 use Rattle.shelf_io.specs.View.{ShelfView}
+use Rattle.spectral_tables.specs.declared.grid.WaveGrid.TheVariants.{Ten}
 use Rattle.spectral_tables.specs.CurveFile.{curve_table_of}
 use Rattle.dye_run.specs.Answers.{Report}
 use Rattle.job_file.specs.declared.top.BatchRule.TheVariants.{With, Without}
@@ -42,7 +43,7 @@ tables_proper contents curves weights judged o proper w = subst (IsProper None) 
 
 -- the possible outcomes of each command
 pub form_proper : (contents : Option Contents) (form : Form) (o : Outcome) → Answers contents (asking_of form) o → IsProper (written_by (Some form)) o
-form_proper contents (ks words) o w = subst (IsProper None) (sym w.2) (proper_then (table_from curve_table_of words.curves w.0) _ (ks_proper words))
+form_proper contents (ks words) o w = subst (IsProper None) (sym w.2) (proper_then (table_from (curve_table_of Ten) words.curves w.0) _ (ks_proper words))
 form_proper contents (xyz words) o w = tables_proper contents words.curves words.weights _ o (coordinates_proper xyz_evaluations xyz_stands words) w
 form_proper contents (lab words) o w = tables_proper contents words.curves words.weights _ o (coordinates_proper lab_evaluations lab_stands words) w
 form_proper contents (diff words) o w = tables_proper contents words.curves words.weights _ o (diff_proper words) w

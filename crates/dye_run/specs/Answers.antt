@@ -1,7 +1,8 @@
 -- What a report shows.
-use Rattle.std.specs.Prelude.{◌≡◌, ℕ, ◌*◌, ◌^◌, ◌<◌, List, [], ◌∷◌, ◌++◌, Option, None, IfSome, flat_map}
+use Rattle.std.specs.Prelude.{◌≡◌, ℕ, ◌*◌, ◌<◌, List, [], ◌∷◌, ◌++◌, Option, None, IfSome, flat_map}
 use Rattle.interval_specs.specs.Ends.{Ends}
 use Rattle.interval_specs.specs.Encloses.{Encloses}
+use Rattle.fix_bounds.specs.Scales.{base_unit}
 use Rattle.dec_text.specs.FixedPoint.{pair_text}
 use Rattle.job_file.specs.Resolve.{ResolvedJob}
 use Rattle.metamerism.specs.Verdicts.{light_verdict}
@@ -9,10 +10,6 @@ use Rattle.metamerism.specs.declared.outcomes.Verdict.TheVariants.{Fail, Pass}
 use Rattle.metamerism.specs.declared.outcomes.Verdict.{Verdict}
 use Rattle.dye_run.specs.declared.statuses.Conclusion.{Conclusion}
 use Rattle.dye_run.specs.declared.statuses.Conclusion.TheVariants.{NoVerdict}
-
--- the base scale: a printed end counts parts of 1 / 10^12
-abbrev pub base_unit : ℕ
-base_unit = 10 ^ 12
 
 -- a quantity that is evaluated with outward rounding: the label of its line, its enclosure at each
 -- scale, and its tolerance in thousandths, if it has one

@@ -4,7 +4,8 @@ use Rattle.std.specs.Prelude.{ℕ, List, [], ◌∷◌, ◌++◌, ◌&&◌, code
 use Rattle.interval_specs.specs.Ends.{Ends}
 use Rattle.cmc_specs.specs.Cmc.{cmc_at}
 use Rattle.spectral_tables.specs.WeightTable.{WeightTable}
-use Rattle.dye_run.specs.Answers.{Evaluation, Report, base_unit, line_of, plain_report, verdict_on}
+use Rattle.dye_run.specs.Answers.{Evaluation, Report, line_of, plain_report, verdict_on}
+use Rattle.fix_bounds.specs.Scales.{base_unit}
 use Rattle.dye_run.specs.Colours.{curve_lab}
 use Rattle.dye_run.specs.Inputs.{◌>>=◌, Tables, curve_from}
 use Rattle.dye_run.specs.Outcome.{Fault}

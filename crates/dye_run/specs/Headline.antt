@@ -19,7 +19,7 @@ use Rattle.recipe_judge.specs.Evaluation.{differences_at}
 use Rattle.recipe_judge.specs.Recipes.{recipe_land}
 use Rattle.shade_report.specs.Outcomes.{accepted_text, demo_text, outcome_text}
 use Rattle.shelf_io.specs.Contents.{Contents}
-use Rattle.dye_run.specs.Answers.{base_unit}
+use Rattle.fix_bounds.specs.Scales.{base_unit}
 use Rattle.dye_run.specs.Asking.{result_of}
 use Rattle.dye_run.specs.Check.{accepted_report, check_rule}
 use Rattle.dye_run.specs.Commands.{asking_of}
@@ -27,12 +27,14 @@ use Rattle.dye_run.specs.Demo.{demo_job, matched_cost}
 use Rattle.dye_run.specs.Due.{CanBeRead}
 use Rattle.dye_run.specs.Endings.{World, with_written}
 use Rattle.dye_run.specs.Forms.{Form, check, correct, demo, predict}
-use Rattle.dye_run.specs.Inputs.{table_limit}
-use Rattle.dye_run.specs.Jobs.{JobTables, cert_limit, job_from, job_limit, job_tables_from, light_files, resolved_from}
+use Rattle.dye_run.specs.Jobs.{JobTables, job_from, job_tables_from, light_files, resolved_from}
 use Rattle.dye_run.specs.Outcome.{conclusion_status, reported}
 use Rattle.dye_run.specs.Search.{conclusion_of, matched_values}
 use Rattle.dye_run.specs.Show.{recipe_values}
 use Rattle.dye_run.specs.Words.{CertWords}
+use Rattle.spectral_tables.specs.declared.records.TheConstants.{TABLE_LIMIT}
+use Rattle.box_cert.specs.declared.read.TheConstants.{CERT_LIMIT}
+use Rattle.dye_run.specs.declared.jobs.TheConstants.{JOB_LIMIT}
 
 -- a job is that of the files: it is resolved from the bytes read from the file with this name, from
 -- its curve file and from the weights files of its lights
@@ -42,9 +44,9 @@ pub record IsJobOfFiles (contents : Option Contents) (rule : BatchRule) (name : 
   pub curves_bytes : Option (List ℕ)
   pub weights_bytes : List (Option (List ℕ))
   pub tables : JobTables
-  pub job : CanBeRead contents name job_limit job_bytes
-  pub curves : CanBeRead contents values.head.curves table_limit curves_bytes
-  pub weights : AllZip (λ file bytes_read. CanBeRead contents file table_limit bytes_read) (light_files values) weights_bytes
+  pub job : CanBeRead contents name JOB_LIMIT job_bytes
+  pub curves : CanBeRead contents values.head.curves TABLE_LIMIT curves_bytes
+  pub weights : AllZip (λ file bytes_read. CanBeRead contents file TABLE_LIMIT bytes_read) (light_files values) weights_bytes
   pub accepted : job_from rule name job_bytes ≡ Ok values
   pub read : job_tables_from values curves_bytes weights_bytes ≡ Ok tables
   pub resolved : resolved_from name values tables ≡ Ok r
@@ -83,7 +85,7 @@ pub record Confirms (words : CertWords) (before after : World) : Type 0 where
   pub cert : Content
   pub text : List ℕ
   pub from_files : IsJobOfFiles before.shelf.contents check_rule words.job job
-  pub text_from_file : CanBeRead before.shelf.contents words.cert cert_limit (Some text)
+  pub text_from_file : CanBeRead before.shelf.contents words.cert CERT_LIMIT (Some text)
   pub spells : cert_of (length (recipe_land job).top.lo) text ≡ Ok cert
   pub valid : IsValid (recipe_land job) cert.claim cert.listed cert.lines
   pub means : Means (recipe_land job) cert.listed cert.claim

@@ -1,6 +1,7 @@
 -- The files of a command without a job: a curve file, or a curve file and a weights file.
 use Rattle.std.specs.Prelude.{ℕ, List, Option, Some, None, Result, Ok, Err}
 use Rattle.spectral_tables.specs.CurveBook.{Book, curve_named}
+use Rattle.spectral_tables.specs.declared.grid.WaveGrid.TheVariants.{Ten}
 use Rattle.spectral_tables.specs.CurveFile.{curve_table_of}
 use Rattle.spectral_tables.specs.WeightTable.{WeightTable}
 use Rattle.spectral_tables.specs.WeightFile.{weight_table_of}
@@ -8,15 +9,12 @@ use Rattle.spectral_tables.specs.declared.fault.TableFault.{TableFault}
 use Rattle.dye_run.specs.Answers.{Report}
 use Rattle.dye_run.specs.Asking.{Asking, answers, asks}
 use Rattle.dye_run.specs.Outcome.{Fault, no_column, outcome_of, table, too_long}
+use Rattle.spectral_tables.specs.declared.records.TheConstants.{TABLE_LIMIT}
 
 infixl 10 ◌>>=◌
 abbrev pub ◌>>=◌ : {A B : Type 0} → Result A Fault → (A → Result B Fault) → Result B Fault
 (Ok x) >>= f = f x
 (Err fault) >>= f = Err fault
-
--- how many bytes a curve file or a weights file may have
-abbrev pub table_limit : ℕ
-table_limit = 1000000
 
 -- the value read from a file, or the fault that refuses the file
 abbrev pub unless_faulty : {T : Type 0} → List ℕ → Result T TableFault → Result T Fault
@@ -44,16 +42,16 @@ pub record Tables : Type 0 where
 -- both, from the bytes read: a fault of the curves is named before one of the weights
 unfoldable pub tables_from : (curves weights : List ℕ) → (curves_bytes weights_bytes : Option (List ℕ)) → Result Tables Fault
 tables_from curves weights curves_bytes weights_bytes = do
-  book ← table_from curve_table_of curves curves_bytes
-  weights_of_file ← table_from weight_table_of weights weights_bytes
+  book ← table_from (curve_table_of Ten) curves curves_bytes
+  weights_of_file ← table_from (weight_table_of Ten) weights weights_bytes
   Ok (record { book = book; weights = weights_of_file })
 
 -- a curve file is due, and judged when it has been read
 abbrev pub asks_book : List ℕ → (Book → Result Report Fault) → Asking
-asks_book curves judged = asks curves table_limit (λ bytes_read. answers (outcome_of (table_from curve_table_of curves bytes_read >>= judged)))
+asks_book curves judged = asks curves TABLE_LIMIT (λ bytes_read. answers (outcome_of (table_from (curve_table_of Ten) curves bytes_read >>= judged)))
 
 -- a curve file and then a weights file are due, and both are judged when they have been read
 abbrev pub asks_tables : (curves weights : List ℕ) → (Tables → Result Report Fault) → Asking
 asks_tables curves weights judged =
-    asks curves table_limit (λ curves_bytes. asks weights table_limit (λ weights_bytes.
+    asks curves TABLE_LIMIT (λ curves_bytes. asks weights TABLE_LIMIT (λ weights_bytes.
     answers (outcome_of (tables_from curves weights curves_bytes weights_bytes >>= judged))))

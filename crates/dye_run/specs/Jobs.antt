@@ -5,17 +5,17 @@ use Rattle.job_file.specs.Resolve.{ResolvedJob, resolved_job}
 use Rattle.job_file.specs.declared.fault.JobFault.{JobFault}
 use Rattle.job_file.specs.declared.top.BatchRule.{BatchRule}
 use Rattle.spectral_tables.specs.CurveBook.{Book}
+use Rattle.spectral_tables.specs.declared.grid.WaveGrid.TheVariants.{Ten}
 use Rattle.spectral_tables.specs.CurveFile.{curve_table_of}
 use Rattle.spectral_tables.specs.WeightTable.{WeightTable}
 use Rattle.spectral_tables.specs.WeightFile.{weight_table_of}
 use Rattle.dye_run.specs.Answers.{Report}
 use Rattle.dye_run.specs.Asking.{Asking, answers, asks}
-use Rattle.dye_run.specs.Inputs.{◌>>=◌, table_from, table_limit}
+use Rattle.dye_run.specs.Inputs.{◌>>=◌, table_from}
 use Rattle.dye_run.specs.Outcome.{Fault, job, outcome_of, refused, too_long}
-
--- how many bytes a job file may have
-abbrev pub job_limit : ℕ
-job_limit = 1000000
+use Rattle.spectral_tables.specs.declared.records.TheConstants.{TABLE_LIMIT}
+use Rattle.box_cert.specs.declared.read.TheConstants.{CERT_LIMIT}
+use Rattle.dye_run.specs.declared.jobs.TheConstants.{JOB_LIMIT}
 
 -- the value made of a job, or the fault that refuses its file
 abbrev pub unless_broken : {T : Type 0} → List ℕ → Result T JobFault → Result T Fault
@@ -36,7 +36,7 @@ unfoldable pub weights_after : List WeightTable → List (List ℕ) → List (Op
 weights_after before [] bytes_read = Ok before
 weights_after before (name ∷ names) [] = Ok before
 weights_after before (name ∷ names) (first ∷ bytes_read) = do
-  weights ← table_from weight_table_of name first
+  weights ← table_from (weight_table_of Ten) name first
   weights_after (before ++ weights ∷ []) names bytes_read
 
 -- the curves of a job, and the weights of its lights
@@ -48,19 +48,19 @@ pub record JobTables : Type 0 where
 -- order
 unfoldable pub job_tables_from : Values → Option (List ℕ) → List (Option (List ℕ)) → Result JobTables Fault
 job_tables_from j curves_bytes weights_bytes = do
-  book ← table_from curve_table_of j.head.curves curves_bytes
+  book ← table_from (curve_table_of Ten) j.head.curves curves_bytes
   weights ← weights_after [] (light_files j) weights_bytes
   Ok (record { book = book; weights = weights })
 
 -- these files of tables are due, one after the other
 unfoldable pub asks_each : List (List ℕ) → (List (Option (List ℕ)) → Asking) → Asking
 asks_each [] next = next []
-asks_each (name ∷ names) next = asks name table_limit (λ first. asks_each names (λ bytes_read. next (first ∷ bytes_read)))
+asks_each (name ∷ names) next = asks name TABLE_LIMIT (λ first. asks_each names (λ bytes_read. next (first ∷ bytes_read)))
 
 -- the curve file of a job is due and then its weights files, and the rest of the command is given
 -- the bytes read
 abbrev pub asks_job_files : Values → (Option (List ℕ) → List (Option (List ℕ)) → Asking) → Asking
-asks_job_files j next = asks j.head.curves table_limit (λ curves_bytes. asks_each (light_files j) (next curves_bytes))
+asks_job_files j next = asks j.head.curves TABLE_LIMIT (λ curves_bytes. asks_each (light_files j) (next curves_bytes))
 
 -- all of them are judged when they have been read
 abbrev pub asks_job_tables : Values → (JobTables → Result Report Fault) → Asking
@@ -77,15 +77,11 @@ unless_faulty_job (Err fault) next = answers (refused fault)
 -- a job is due, and judged by itself when it has been read; the rest is asked for only where it is
 -- accepted
 abbrev pub asks_accepted : BatchRule → List ℕ → (Values → Asking) → Asking
-asks_accepted rule name next = asks name job_limit (λ bytes_read. unless_faulty_job (job_from rule name bytes_read) next)
+asks_accepted rule name next = asks name JOB_LIMIT (λ bytes_read. unless_faulty_job (job_from rule name bytes_read) next)
 
 -- a job is due, and where it has no fault its tables; the job resolved over them is judged
 abbrev pub asks_job : BatchRule → List ℕ → (ResolvedJob → Result Report Fault) → Asking
 asks_job rule name judged = asks_accepted rule name (λ j. asks_job_tables j (λ tables. resolved_from name j tables >>= judged))
-
--- how many bytes a certificate file may have
-abbrev pub cert_limit : ℕ
-cert_limit = 64000000
 
 -- the tables of a job, and the text of a certificate
 pub record CertTables : Type 0 where
@@ -106,7 +102,7 @@ cert_tables_from j cert curves_bytes weights_bytes cert_bytes = do
 -- the tables of a job are due and then a certificate, and all are judged when they have been read
 abbrev pub asks_cert_tables : Values → List ℕ → (CertTables → Result Report Fault) → Asking
 asks_cert_tables j cert judged =
-    asks_job_files j (λ curves_bytes weights_bytes. asks cert cert_limit (λ cert_bytes.
+    asks_job_files j (λ curves_bytes weights_bytes. asks cert CERT_LIMIT (λ cert_bytes.
     answers (outcome_of (cert_tables_from j cert curves_bytes weights_bytes cert_bytes >>= judged))))
 
 -- the judgement of a job resolved over its tables, with the text of a certificate

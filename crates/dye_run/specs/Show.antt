@@ -15,7 +15,8 @@ use Rattle.recipe_judge.specs.Land.{over_batch}
 use Rattle.shade_report.specs.Recipes.{RecipeValues, show_text}
 use Rattle.spectral_tables.specs.Spectrum.{spectrum_at}
 use Rattle.spectral_tables.specs.WeightTable.{WeightTable}
-use Rattle.dye_run.specs.Answers.{Evaluation, Report, base_unit}
+use Rattle.dye_run.specs.Answers.{Evaluation, Report}
+use Rattle.fix_bounds.specs.Scales.{base_unit}
 use Rattle.dye_run.specs.Inputs.{◌>>=◌}
 use Rattle.dye_run.specs.Outcome.{Fault, steps}
 use Rattle.dye_run.specs.Words.{is_job_word}

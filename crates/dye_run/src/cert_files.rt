@@ -4,7 +4,7 @@ ghost use Rattle.std.specs.Prelude.{◌≡◌, ◌≤◌, List, ℕ, All, IfOk, 
 ghost use Rattle.job_file.specs.JobView.{job_view};
 ghost use Rattle.job_file.specs.Resolve.{ResolvedJob};
 ghost use Rattle.job_file.specs.ResolvedView.{resolved_view};
-ghost use Rattle.spectral_tables.specs.WeightTable.{IsWeightTable};
+ghost use Rattle.spectral_tables.specs.CurveBook.{wave_count};
 ghost use Rattle.dye_run.specs.Answers.{Report};
 ghost use Rattle.dye_run.specs.Asking.{ReadsDue};
 ghost use Rattle.dye_run.specs.Files.{FitsFiles};
@@ -13,19 +13,18 @@ ghost use Rattle.dye_run.specs.Jobs.{asks_cert, asks_cert_tables, cert_tables_fr
 ghost use Rattle.dye_run.specs.Judging.{Gives, IsInput};
 ghost use Rattle.dye_run.specs.Outcome.{Fault};
 ghost use Rattle.dye_run.specs.Views.{bytes_view, cert_tables_view};
+ghost use Rattle.box_cert.specs.declared.read.TheConstants.{CERT_LIMIT};
 
 use crate::inputs::due;
 use crate::jobs::{
     FilesRead, JOB_LIMIT, JobTables, job_from, read_job_files, resolved_from, tables_of,
 };
 use crate::stop::Stop;
+use box_cert::CERT_LIMIT;
 use job_file::{BatchRule, Job, Resolved};
 use shade_report::Refusal;
 use shelf_io::Shelf;
 use std::alloc::Global;
-
-/// How many bytes a certificate file may have.
-const CERT_LIMIT: u64 = 64_000_000;
 
 /// The tables of a job, and the text of a certificate.
 #[derive(Drop)]
@@ -39,7 +38,7 @@ pub(crate) struct CertTables {
 pub(crate) struct WithCert {
     pub resolved: Resolved,
     pub text: Vec<u8>,
-    pub ghost short: { length text.items ≤ 64000000 },
+    pub ghost short: { length text.items ≤ CERT_LIMIT },
 }
 
 /// The text of a certificate, from the bytes that were read. These are `None` where the file has
@@ -65,14 +64,15 @@ fn cert_tables_of<'n>(
     text: Option<Vec<u8>>,
 ) -> Result<CertTables, Stop<'n>>
     requires fit { FitsFiles (length job.now.light.items) bytes_read.now }
-    requires short { IfSome text (λ t. length t.items ≤ 64000000) }
+    requires short { IfSome text (λ t. length t.items ≤ CERT_LIMIT) }
     ensures is { Gives cert_tables_view result (cert_tables_from (job_view job.now) cert.now
         (bytes_view bytes_read.now.curves) (map bytes_view bytes_read.now.weights.items)
         (bytes_view text)) }
     ensures count { IfOk result (λ t. length t.tables.weights.items
         ≡ length job.now.light.items) }
-    ensures held { IfOk result (λ t. All IsWeightTable t.tables.weights.items) }
-    ensures short { IfOk result (λ t. length t.text.items ≤ 64000000) }
+    ensures waves { IfOk result (λ t.
+        All (λ w. length w.weights ≡ wave_count t.tables.book) t.tables.weights.items) }
+    ensures short { IfOk result (λ t. length t.text.items ≤ CERT_LIMIT) }
 {
     let tables = tables_of(alloc, job, bytes_read)?;
     let text = text_from(cert, text)?;
@@ -95,8 +95,9 @@ fn read_cert_tables<'n, H: Shelf>(
         (H.view shelf.old) (H.view shelf.new) }
     ensures count { IfOk result (λ t. length t.tables.weights.items
         ≡ length job.now.light.items) }
-    ensures held { IfOk result (λ t. All IsWeightTable t.tables.weights.items) }
-    ensures short { IfOk result (λ t. length t.text.items ≤ 64000000) }
+    ensures waves { IfOk result (λ t.
+        All (λ w. length w.weights ≡ wave_count t.tables.book) t.tables.weights.items) }
+    ensures short { IfOk result (λ t. length t.text.items ≤ CERT_LIMIT) }
 {
     let bytes_read = read_job_files(alloc, shelf, job)?;
     let text = due(alloc, shelf, cert, CERT_LIMIT)?;
@@ -111,8 +112,9 @@ fn with_cert<'a>(
     tables: CertTables,
 ) -> Result<WithCert, Stop<'a>>
     requires count { length tables.tables.weights.items ≡ length job.light.items }
-    requires held { All IsWeightTable tables.tables.weights.items }
-    requires short { length tables.text.items ≤ 64000000 }
+    requires waves { All (λ w. length w.weights ≡ wave_count tables.tables.book)
+        tables.tables.weights.items }
+    requires short { length tables.text.items ≤ CERT_LIMIT }
     ensures is { Gives (λ w. resolved_view w.resolved) result
         (spec.resolved_from name.now (job_view job) (cert_tables_view tables).tables) }
     ensures text { IfOk result (λ w. w.text.items ≡ tables.text.items) }

@@ -1,7 +1,7 @@
 //! Commands that report coordinates of one column under a light.
 
 ghost use Rattle.std.specs.Prelude.{◌≡◌, IfOk, List, ℕ};
-ghost use Rattle.spectral_tables.specs.WeightTable.{WeightTable};
+ghost use Rattle.spectral_tables.specs.WeightTable.{HasItemEachWave, WeightTable};
 ghost use Rattle.dye_run.specs.Answers.{Evaluation, lines_of};
 ghost use Rattle.dye_run.specs.Coordinates.{coordinates_report};
 ghost use Rattle.dye_run.specs.Inputs.{asks_tables};
@@ -24,6 +24,7 @@ pub(crate) trait Coordinates: Copy {
 
     /// The text that reports the coordinates: a line for each.
     fn text(self, alloc: Global, weights: &Weights, curve: &Curve) -> Result<Vec<u8>, AllocError>
+        requires { HasItemEachWave weights.now curve.now }
         ensures { IfOk result (λ text.
             text.items ≡ lines_of (evaluations self weights.now curve.now)) };
 }

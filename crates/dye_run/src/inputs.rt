@@ -12,12 +12,13 @@ ghost use Rattle.dye_run.specs.Inputs.{asks_book, asks_tables};
 ghost use Rattle.dye_run.specs.Judging.{Gives, IsInput, StopsAt};
 ghost use Rattle.dye_run.specs.Outcome.{Fault};
 ghost use Rattle.dye_run.specs.Views.{tables_view};
+ghost use Rattle.spectral_tables.specs.declared.records.TheConstants.{TABLE_LIMIT};
 
 use crate::stop::Stop;
-use crate::tables::{TABLE_LIMIT, Tables, table_from};
+use crate::tables::{Tables, table_from};
 use shade_report::Refusal;
 use shelf_io::{Shelf, TakeFault, take_file};
-use spectral_tables::CurveBook;
+use spectral_tables::{CurveBook, TABLE_LIMIT};
 use std::alloc::Global;
 
 /// Reads a due file: its bytes, or `None` where it has more than `limit`.
@@ -73,8 +74,8 @@ fn tables_from<'a>(
     weights: &'a str,
     bytes_read: &Both,
 ) -> Result<Tables, Stop<'a>>
-    requires curves { ForSome bytes_read.now.curves (λ bytes. length bytes.items ≤ 1000000) }
-    requires weights { ForSome bytes_read.now.weights (λ bytes. length bytes.items ≤ 1000000) }
+    requires curves { ForSome bytes_read.now.curves (λ bytes. length bytes.items ≤ TABLE_LIMIT) }
+    requires weights { ForSome bytes_read.now.weights (λ bytes. length bytes.items ≤ TABLE_LIMIT) }
     ensures { Gives tables_view result (spec.tables_from curves.now weights.now
         (option_map (λ b. b.items) bytes_read.now.curves)
         (option_map (λ b. b.items) bytes_read.now.weights)) }

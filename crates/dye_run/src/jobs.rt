@@ -5,8 +5,9 @@ ghost use Rattle.std.specs.Option.{ForSome};
 ghost use Rattle.job_file.specs.JobView.{job_view};
 ghost use Rattle.job_file.specs.Resolve.{ResolvedJob};
 ghost use Rattle.job_file.specs.ResolvedView.{resolved_view};
-ghost use Rattle.spectral_tables.specs.CurveBook.{IsBook};
-ghost use Rattle.spectral_tables.specs.WeightTable.{IsWeightTable};
+ghost use Rattle.spectral_tables.specs.CurveBook.{wave_count};
+ghost use Rattle.spectral_tables.specs.Grid.{count_of};
+ghost use Rattle.spectral_tables.specs.declared.grid.WaveGrid.TheVariants.{Ten};
 ghost use Rattle.dye_run.specs.Answers.{Report};
 ghost use Rattle.dye_run.specs.Asking.{Asking, ReadsDue};
 ghost use Rattle.dye_run.specs.Files.{FitsFiles};
@@ -15,14 +16,15 @@ ghost use Rattle.dye_run.specs.Jobs.{asks_each, asks_job, asks_job_files, asks_j
 ghost use Rattle.dye_run.specs.Judging.{Gives, GoesOn, IsInput, StopsHaving};
 ghost use Rattle.dye_run.specs.Outcome.{Fault};
 ghost use Rattle.dye_run.specs.Views.{bytes_view, job_tables_view};
+ghost use Rattle.spectral_tables.specs.declared.records.TheConstants.{TABLE_LIMIT};
 
 use crate::inputs::due;
 use crate::stop::Stop;
-use crate::tables::{TABLE_LIMIT, table_from};
+use crate::tables::table_from;
 use job_file::{BatchRule, Job, JobError, JobLight, Resolved, read_job, resolve};
 use shade_report::Refusal;
 use shelf_io::Shelf;
-use spectral_tables::{CurveBook, Weights};
+use spectral_tables::{CurveBook, TABLE_LIMIT, Weights};
 use std::alloc::Global;
 
 /// How many bytes a job file may have.
@@ -69,7 +71,7 @@ fn read_lights<'n, H: Shelf>(
         (H.view shelf.old) (H.view shelf.new)) }
     ensures count { IfOk result (λ bytes_read. length bytes_read.items ≡ length lights.now) }
     ensures short { IfOk result (λ bytes_read.
-        All (λ c. IfSome c (λ bytes. length bytes.items ≤ 1000000)) bytes_read.items) }
+        All (λ c. IfSome c (λ bytes. length bytes.items ≤ TABLE_LIMIT)) bytes_read.items) }
     ensures stopped { (next : List (Option (List ℕ)) → Asking) → IfErr result (λ why.
         StopsHaving (asks_each (map (λ l. l.weights) lights.now) next)
         (H.view shelf.old) (H.view shelf.new) why) }
@@ -89,16 +91,16 @@ fn weights_of<'n>(
     bytes_read: &[Option<Vec<u8>>],
 ) -> Result<Vec<Weights>, Stop<'n>>
     requires count { length bytes_read.now ≡ length lights.now }
-    requires short { All (λ c. IfSome c (λ bytes. length bytes.items ≤ 1000000)) bytes_read.now }
+    requires short { All (λ c. IfSome c (λ bytes. length bytes.items ≤ TABLE_LIMIT)) bytes_read.now }
     ensures is { Gives (λ w. w.items) result
         (weights_after [] (map (λ l. l.weights) lights.now) (map bytes_view bytes_read.now)) }
     ensures count { IfOk result (λ w. length w.items ≡ length lights.now) }
-    ensures held { IfOk result (λ w. All IsWeightTable w.items) }
+    ensures waves { IfOk result (λ w.
+        All (λ w. length w.weights ≡ count_of Ten) w.items) }
 {
     let mut weights = Vec::new(alloc);
     for (i, light) in lights.iter().enumerate() {
         let table: Weights = table_from(alloc, light.weights.as_str(), bytes_read[i].as_deref())?;
-        let _ = table.waves(); // called only for its contract: the invariant of weights
         weights.push(table)?;
     }
     Ok(weights)
@@ -142,7 +144,8 @@ pub(crate) fn tables_of<'n>(
     ensures is { Gives job_tables_view result (job_tables_from (job_view job.now)
         (bytes_view bytes_read.now.curves) (map bytes_view bytes_read.now.weights.items)) }
     ensures count { IfOk result (λ t. length t.weights.items ≡ length job.now.light.items) }
-    ensures held { IfOk result (λ t. All IsWeightTable t.weights.items) }
+    ensures waves { IfOk result (λ t.
+        All (λ w. length w.weights ≡ wave_count t.book) t.weights.items) }
 {
     let book = table_from(alloc, job.curves.as_str(), bytes_read.curves.as_deref())?;
     let weights = weights_of(alloc, job.light.as_slice(), bytes_read.weights.as_slice())?;
@@ -163,7 +166,8 @@ fn read_job_tables<'n, H: Shelf>(
         ReadsDue (asks_job_tables (job_view job.now) judged)
         (H.view shelf.old) (H.view shelf.new) }
     ensures count { IfOk result (λ t. length t.weights.items ≡ length job.now.light.items) }
-    ensures held { IfOk result (λ t. All IsWeightTable t.weights.items) }
+    ensures waves { IfOk result (λ t.
+        All (λ w. length w.weights ≡ wave_count t.book) t.weights.items) }
 {
     let bytes_read = read_job_files(alloc, shelf, job)?;
     tables_of(alloc, job, &bytes_read)
@@ -177,12 +181,12 @@ pub(crate) fn resolved_from<'a>(
     tables: JobTables,
 ) -> Result<Resolved, Stop<'a>>
     requires count { length tables.weights.items ≡ length job.light.items }
-    requires held { All IsWeightTable tables.weights.items }
+    requires waves { All (λ w. length w.weights ≡ wave_count tables.book)
+        tables.weights.items }
     ensures { Gives resolved_view result
         (resolved_from name.now (job_view job) (job_tables_view tables)) }
 {
     let JobTables { book, weights } = tables;
-    let _ = book.find(""); // called only for its contract: the invariant of a book
     match resolve(alloc, job, &book, weights) {
         Ok(resolved) => Ok(resolved),
         Err(JobError::Fault(fault)) => Err(Stop::Refused(Refusal::Job(name, fault))),

@@ -1,2 +1,3 @@
 pub mod CanRound
 pub mod Ratios
+pub mod Scales

@@ -2,6 +2,7 @@ ghost use Rattle.std.specs.Prelude.{◌≡◌, ℕ, ℤ, pos, ◌^◌, ◌≤◌
 ghost use Rattle.std.specs.Int.{◌∣◌};
 ghost use Rattle.std.proofs.Common.{refl, lit≤};
 ghost use Rattle.std.proofs.Math.Nat.{dvd-mul_right};
+ghost use Rattle.fix_bounds.specs.Scales.{base_unit};
 
 /// A fixed-point scale: the ends of an interval count parts of 1 / `UNIT`.
 pub trait Scale: Copy {
@@ -41,7 +42,7 @@ impl Scale for Base {
 
     ghost UNIT = { pos 1_000_000_000_000 };
 
-    ghost unit = { 10 ^ 12 };
+    ghost unit = { base_unit };
 
     ghost unit_is = { refl };
 

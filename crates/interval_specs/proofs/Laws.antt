@@ -8,7 +8,7 @@ mod Quotients
 mod Magnitudes
 mod Roots
 mod Decisions
-pub use Rattle.interval_specs.proofs.Laws.Enclosing.{outer_ordered, encloses_trans, included, inclusion_low, inclusion_high, encloses_itself, one_encloses, low_not_negative}
+pub use Rattle.interval_specs.proofs.Laws.Enclosing.{outer_ordered, encloses_trans, included, inclusion_low, inclusion_high, encloses_itself, nothing_encloses, one_encloses, low_not_negative}
 pub use Rattle.interval_specs.proofs.Laws.Ratios.{ratio_encloses, fraction_encloses, none_of}
 pub use Rattle.interval_specs.proofs.Laws.Sums.{sum_encloses, difference_encloses, multiple_encloses}
 pub use Rattle.interval_specs.proofs.Laws.Choices.{cut_low_encloses, cut_high_encloses, hull_encloses, hull_first, hull_second}

@@ -1,3 +1,4 @@
+pub mod Additions
 pub mod Order
 pub mod Rounds
 pub mod Roots

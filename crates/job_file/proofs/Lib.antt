@@ -1,7 +1,6 @@
 mod Documents
 mod NameFacts
 mod TableFacts
-mod StrengthFacts
 mod ResolveFacts
 mod Judged
 mod KeysJudged

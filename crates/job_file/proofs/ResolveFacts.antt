@@ -1,5 +1,5 @@
 -- What holds of the parts of a resolved job.
-use Rattle.std.proofs.Common.{◌≡◌, ◌≢◌, ◌+◌, ◌*◌, ◌≤◌, ◌++◌, ◌∙◌, ℕ, Bool, true, false, Option, Some, None, Result, Ok, Err, List, [], ◌∷◌, All, IfSome, length, map, refl, ap, sym, subst, append_assoc, append-nil, arith}
+use Rattle.std.proofs.Common.{◌^◌, ◌≡◌, ◌≢◌, ◌+◌, ◌*◌, ◌≤◌, ◌++◌, ◌∙◌, ℕ, Bool, true, false, Option, Some, None, Result, Ok, Err, List, [], ◌∷◌, All, IfSome, length, map, refl, ap, sym, subst, append_assoc, append-nil, arith}
 use Rattle.std.specs.Prelude.{◌&&◌, ◌||◌, not, nat_le, if◌then◌else◌}
 use Rattle.std.specs.List.{AllZip}
 use Rattle.std.proofs.lemmas.Bool.{leb-true}
@@ -13,8 +13,13 @@ use Rattle.job_file.specs.Job.{Values}
 use Rattle.job_file.specs.ResolvedKept.{IsResolved}
 use Rattle.std.specs.Str.{bytes_eq}
 use Rattle.std.proofs.lemmas.List.Elements.{All-cons, All-tail}
+use Rattle.ks_curves.specs.declared.kind.Calibration.TheVariants.{Line}
 use Rattle.ks_curves.specs.Dye.{Dyeing as Measured, DyeData}
-use Rattle.mix_model.specs.Mixture.{Portion, CanAdd, IsPortion, portions}
+use Rattle.interval_specs.specs.Ends.{Ends}
+use Rattle.mix_model.specs.Base.{base_at}
+use Rattle.mix_model.specs.Mixture.{Portion, CanAdd, IsPortion, doses_of, dosed, no_steps, portions}
+use Rattle.mix_model.specs.Strength.{is_too_strong}
+use Rattle.mix_model.proofs.StrengthLaws.{line_strength}
 use Rattle.price_grid.specs.declared.dye_cost.DyeCost.{DyeCost}
 use Rattle.price_grid.specs.Grid.{IsRecipe}
 use Rattle.price_grid.specs.Limits.{LimitsView, IsPair as IsNumberPair}
@@ -27,10 +32,11 @@ use Rattle.job_file.specs.Batch.{IsBatch, are_within}
 use Rattle.job_file.specs.Dye.{IsDye, has_dye}
 use Rattle.job_file.specs.Faults.{◌>>=◌, ensure}
 use Rattle.job_file.specs.Pair.{IsPair}
-use Rattle.job_file.specs.Resolve.{base_curve, cost_of_dye, is_too_strong, limits_of, most_steps, next_calibrated, next_measured, number_of, numbers_of}
+use Rattle.job_file.specs.Resolve.{base_curve, cost_of_dye, limits_of, most_steps, next_calibrated, next_measured, number_of, numbers_of, up_to_most}
 
 -- a dye of the job, calibrated on a cloth
 pub record IsCalibrated (substrate : List ℕ) (dye : DyeData) (of : JobDye) : Type 0 where
+  pub kind : dye.kind ≡ Line
   pub step : dye.step ≡ of.step
   pub substrate_is : dye.substrate ≡ substrate
 
@@ -39,12 +45,12 @@ Behind substrate xs before ys = (zs : List DyeData) × (ys ≡ before ++ zs) × 
 
 next_behind : (substrate : List ℕ) (x : JobDye) (xs : List JobDye) (before ys : List DyeData) (r : Result (List Measured) JobFault) (rest : DyeData → Result (List DyeData) JobFault)
     → ((y : DyeData) → rest y ≡ Ok ys → Behind substrate xs (before ++ y ∷ []) ys)
-    → ((r >>= (λ dyeings. Ok (record { step = x.step; substrate = substrate; dyeings = dyeings }))) >>= rest) ≡ Ok ys → Behind substrate (x ∷ xs) before ys
+    → ((r >>= (λ dyeings. Ok (record { kind = Line; step = x.step; substrate = substrate; dyeings = dyeings }))) >>= rest) ≡ Ok ys → Behind substrate (x ∷ xs) before ys
 next_behind substrate x xs before ys (Err f) rest later e = cc
 next_behind substrate x xs before ys (Ok dyeings) rest later e =
-    let y : DyeData = record { step = x.step; substrate = substrate; dyeings = dyeings } in
+    let y : DyeData = record { kind = Line; step = x.step; substrate = substrate; dyeings = dyeings } in
     let behind = later y e in
-    (y ∷ behind.0, behind.1 ∙ append_assoc before (y ∷ []) behind.0, (record { step = refl; substrate_is = refl }, behind.2))
+    (y ∷ behind.0, behind.1 ∙ append_assoc before (y ∷ []) behind.0, (record { kind = refl; step = refl; substrate_is = refl }, behind.2))
 
 all_behind : (book : Book) (substrate : List ℕ) (xs : List JobDye) (before ys : List DyeData) → each (next_calibrated book substrate) before xs ≡ Ok ys → Behind substrate xs before ys
 all_behind book substrate [] before ys e = let same : before ≡ ys = cc in ([], sym same ∙ sym (append-nil before), tt)
@@ -79,21 +85,46 @@ length-most_steps substrate (y ∷ ys) (x ∷ xs) h = let e = length-most_steps 
 first_dye : (x : JobDye) (xs : List JobDye) → All IsDye (x ∷ xs) → IsDye x
 first_dye x xs each = each 0 x (omega arith)
 
-most_portions : (substrate : List ℕ) (ys : List DyeData) (xs : List JobDye) → AllZip (IsCalibrated substrate) ys xs → All IsDye xs → All (IsPortion (length substrate)) (portions ys (most_steps xs) (most_steps xs))
-unfolding portions
+-- the bath of a job, which has no dye
+abbrev pub no_bath : List JobDye → List ℕ
+no_bath xs = map (λ d. 0) xs
+
+most_portions : (substrate : List ℕ) (ys : List DyeData) (xs : List JobDye) → AllZip (IsCalibrated substrate) ys xs → All IsDye xs → All (IsPortion (length substrate)) (up_to_most ys (no_bath xs) (most_steps xs))
+unfolding dosed doses_of
 most_portions substrate [] xs h each = λ k d lt. absurd (omega arith)
 most_portions substrate (y ∷ ys) [] h each = absurd h
 most_portions substrate (y ∷ ys) (x ∷ xs) h each =
-    let p : Portion = record { dye = y; fewest = x.most; most = x.most } in
+    let p : Portion = record { dye = y; bath = 0 * y.step; from = 0 * y.step; upto = x.most * y.step } in
     let narrow = (first_dye x xs each).narrow in
     let units : x.most * y.step ≤ 20000 = rw h.0.step (omega (arith, narrow)) in
-    let here : IsPortion (length substrate) p = record { ordered = omega arith; units = units; waves = ap length h.0.substrate_is } in
-    All-cons (IsPortion (length substrate)) p (portions ys (most_steps xs) (most_steps xs)) here (most_portions substrate ys xs h.1 (All-tail IsDye x xs each))
+    let here : IsPortion (length substrate) p = record { ordered = omega arith; units = omega (arith, units); waves = ap length h.0.substrate_is } in
+    All-cons (IsPortion (length substrate)) p (up_to_most ys (no_bath xs) (most_steps xs)) here (most_portions substrate ys xs h.1 (All-tail IsDye x xs each))
 
-pub most_adds : (count : ℕ) (substrate : List ℕ) (ys : List DyeData) (xs : List JobDye) → AllZip (IsCalibrated substrate) ys xs → All IsDye xs → length substrate ≡ count → CanAdd count ys (most_steps xs) (most_steps xs)
-most_adds count substrate ys xs h each same =
-    let steps = length-most_steps substrate ys xs h in
-    record { lo_count = steps; hi_count = steps; each = subst (λ k. All (IsPortion k) (portions ys (most_steps xs) (most_steps xs))) same (most_portions substrate ys xs h each) }
+length-no_bath : (substrate : List ℕ) (ys : List DyeData) (xs : List JobDye) → AllZip (IsCalibrated substrate) ys xs → length (no_bath xs) ≡ length ys
+length-no_bath substrate [] [] h = refl
+length-no_bath substrate [] (x ∷ xs) h = absurd h
+length-no_bath substrate (y ∷ ys) [] h = absurd h
+length-no_bath substrate (y ∷ ys) (x ∷ xs) h = let e = length-no_bath substrate ys xs h.1 in omega (arith, e)
+
+pub most_adds : (count : ℕ) (substrate : List ℕ) (ys : List DyeData) (xs : List JobDye) → AllZip (IsCalibrated substrate) ys xs → All IsDye xs → length ys ≤ 12 → length substrate ≡ count
+    → CanAdd count ys (no_bath xs) (no_steps ys) (most_steps xs)
+most_adds count substrate ys xs h each few same =
+    record {
+      steps = record { few = few; bath_count = length-no_bath substrate ys xs h; lo_count = length-map ys (λ d. 0); hi_count = length-most_steps substrate ys xs h };
+      each = subst (λ k. All (IsPortion k) (up_to_most ys (no_bath xs) (most_steps xs))) same (most_portions substrate ys xs h each);
+    }
+
+lines : (substrate : List ℕ) (ys : List DyeData) (xs : List JobDye) → AllZip (IsCalibrated substrate) ys xs → All (λ dye. dye.kind ≡ Line) ys
+lines substrate [] xs h = λ k d lt. absurd (omega arith)
+lines substrate (y ∷ ys) [] h = absurd h
+lines substrate (y ∷ ys) (x ∷ xs) h = All-cons (λ (dye : DyeData). dye.kind ≡ Line) y ys h.0.kind (lines substrate ys xs h.1)
+
+-- of straight lines, recipes of up to the most steps of each dye are too strong exactly where that
+-- of all dyes at their most steps is
+pub strong_at_most : (substrate : List ℕ) (base : List Ends) (ys : List DyeData) (xs : List JobDye) (bath : List ℕ) → AllZip (IsCalibrated substrate) ys xs
+    → is_too_strong base (up_to_most ys bath (most_steps xs)) ≡ is_too_strong base (portions ys bath (most_steps xs) (most_steps xs))
+strong_at_most substrate base ys xs bath h =
+    line_strength base ys bath (no_steps ys) (most_steps xs) (most_steps xs) (lines substrate ys xs h) (length-map ys (λ d. 0) ∙ sym (length-most_steps substrate ys xs h))
 
 pub same_most : (xs : List JobDye) → map (λ cost. cost.most) (map cost_of_dye xs) ≡ most_steps xs
 same_most [] = refl
@@ -195,7 +226,7 @@ held_where_not position rule false x e = refl
 
 pub kept_of : (j : Values) (substrate standard : List ℕ) (dyes : List DyeData) (grid : List DyeCost) (limits : LimitsView) (weights : List WeightTable) (batch : Option (List ℕ)) (count : ℕ)
     → AllZip (IsCalibrated substrate) dyes j.dye → grid ≡ map cost_of_dye j.dye → limits ≡ limits_of j → length weights ≡ length j.light → All (IsPair j.dye) j.pair → IfSome j.batch (IsBatch j.dye)
-    → is_too_strong (base_curve substrate batch) dyes (most_steps j.dye) ≡ false → length substrate ≡ count → length standard ≡ count → IfSome batch (λ c. length c ≡ count) → All (λ w. length w.weights ≡ count) weights
+    → is_too_strong (base_at (10 ^ 12) (base_curve substrate batch)) (up_to_most dyes limits.bath (most_steps j.dye)) ≡ false → length substrate ≡ count → length standard ≡ count → IfSome batch (λ c. length c ≡ count) → All (λ w. length w.weights ≡ count) weights
     → IsResolved (record { job = j; substrate = substrate; standard = standard; dyes = dyes; grid = grid; limits = limits; weights = weights; batch = batch })
 kept_of j substrate standard dyes grid limits weights batch count calibrated is limits_are lights pairs bath weak waves standard_waves of_batch of_weights =
     record {
@@ -204,7 +235,8 @@ kept_of j substrate standard dyes grid limits weights batch count calibrated is 
       lights = lights;
       limits_fit = rw (is, limits_are) (record { bath = no_steps_fit j.dye; pairs = pairs_fit j.dye j.pair pairs });
       bath_fits = subst (λ g. IfSome j.batch (λ b. IsRecipe g b.steps.items)) (sym is) (batch_fits j.dye j.batch bath);
-      weak = subst (λ g. is_too_strong (base_curve substrate batch) dyes (map (λ cost. cost.most) g) ≡ false) (sym is) (ap (is_too_strong (base_curve substrate batch) dyes) (same_most j.dye) ∙ weak);
+      weak = subst (λ g. is_too_strong (base_at (10 ^ 12) (base_curve substrate batch)) (up_to_most dyes limits.bath (map (λ cost. cost.most) g)) ≡ false) (sym is)
+          (ap (λ most. is_too_strong (base_at (10 ^ 12) (base_curve substrate batch)) (up_to_most dyes limits.bath most)) (same_most j.dye) ∙ weak);
       waves = record {
         standard = standard_waves ∙ sym waves;
         batch = batch_waves substrate batch count waves of_batch;

@@ -1,11 +1,12 @@
--- A job with the curves of a file: each name of a curve is resolved to that curve, and a recipe of
--- all dyes at their most steps must not be too strong.
-use Rattle.std.specs.Prelude.{◌+◌, ◌*◌, ◌^◌, ℕ, pos, Bool, not, int_lt, Option, Some, None, Result, Ok, List, [], ◌∷◌, length, map, if◌then◌else◌}
-use Rattle.std.specs.List.{list_any}
+-- A job with the curves of a file: each name of a curve is resolved to that curve, and recipes of up
+-- to the most steps of each dye must not be too strong.
+use Rattle.std.specs.Prelude.{◌+◌, ◌*◌, ℕ, Bool, not, Option, Some, None, Result, Ok, List, [], ◌∷◌, length, map, if◌then◌else◌}
 use Rattle.std.specs.Str.{bytes_eq}
+use Rattle.ks_curves.specs.declared.kind.Calibration.TheVariants.{Line}
 use Rattle.ks_curves.specs.Dye.{Dyeing as Measured, DyeData}
 use Rattle.mix_model.specs.Base.{base_at}
-use Rattle.mix_model.specs.Mixture.{mixture_ks_at, portions}
+use Rattle.mix_model.specs.Mixture.{Portion, no_steps, portions}
+use Rattle.mix_model.specs.Strength.{is_too_strong}
 use Rattle.price_grid.specs.declared.dye_cost.DyeCost.{DyeCost}
 use Rattle.price_grid.specs.Limits.{LimitsView}
 use Rattle.spectral_tables.specs.CurveBook.{Book, curve_named}
@@ -21,6 +22,7 @@ use Rattle.job_file.specs.Arrays.{each, if_there}
 use Rattle.job_file.specs.Batch.{batch_position}
 use Rattle.job_file.specs.Faults.{◌>>=◌, ◌>>◌, ensure, or_fault}
 use Rattle.job_file.specs.Job.{Values, job_position}
+use Rattle.fix_bounds.specs.Scales.{base_unit}
 
 -- the curve of a name, or a fault where the book has none of this name
 abbrev pub curve_of : Book → Position → List ℕ → Result (List ℕ) JobFault
@@ -32,11 +34,11 @@ next_measured book dye before d = do
   curve ← curve_of book (record { part = Dyeing; item = dye; sub = length before + 1 }) d.curve
   Ok (d.units, curve)
 
--- the next dye, after those in `before`, calibrated on the substrate
+-- the next dye, after those in `before`, calibrated on the substrate by a straight line
 abbrev pub next_calibrated : Book → List ℕ → List DyeData → JobDye → Result DyeData JobFault
 next_calibrated book substrate before d = do
   dyeings ← each (next_measured book (length before + 1)) [] d.dyeing.items
-  Ok (record { step = d.step; substrate = substrate; dyeings = dyeings })
+  Ok (record { kind = Line; step = d.step; substrate = substrate; dyeings = dyeings })
 
 -- what a dye costs, and how much of it may be weighed out
 abbrev pub cost_of_dye : JobDye → DyeCost
@@ -70,11 +72,9 @@ abbrev pub base_curve : List ℕ → Option (List ℕ) → List ℕ
 base_curve substrate None = substrate
 base_curve substrate (Some batch) = batch
 
--- at some wavelength the upper end, at scale 10^12, of the K/S of the base with these steps of the
--- dyes is above 10^6
-unfoldable pub is_too_strong : List ℕ → List DyeData → List ℕ → Bool
-is_too_strong base dyes steps =
-    list_any (λ q. int_lt (pos (10 ^ 6 * 10 ^ 12)) q.hi) (mixture_ks_at (10 ^ 12) (base_at (10 ^ 12) base) (portions dyes steps steps))
+-- no steps to the most of each dye, where the steps in `bath` are on the cloth
+abbrev pub up_to_most : List DyeData → (bath most : List ℕ) → List Portion
+up_to_most dyes bath most = portions dyes bath (no_steps dyes) most
 
 -- a resolved job
 pub record ResolvedJob : Type 0 where
@@ -96,7 +96,7 @@ resolved_job book j weights = do
   standard ← curve_of book job_position j.head.standard
   dyes ← each (next_calibrated book substrate) [] j.dye
   batch ← if_there (λ b. curve_of book batch_position b.curve) j.batch
-  ensure job_position TooStrong (not (is_too_strong (base_curve substrate batch) dyes (most_steps j.dye)))
+  ensure job_position TooStrong (not (is_too_strong (base_at base_unit (base_curve substrate batch)) (up_to_most dyes (limits_of j).bath (most_steps j.dye))))
   Ok (record {
     job = j;
     substrate = substrate;

@@ -13,7 +13,7 @@ use crate::dye::JobDye;
 use crate::dyeing::JobDyeing;
 use crate::fault::{JobError, JobRule, Part, Position};
 use arrayvec::ArrayVec;
-use ks_curves::Dye;
+use ks_curves::{Calibration, Dye};
 use spectral_tables::{Curve, CurveBook};
 use std::alloc::Global;
 
@@ -83,7 +83,7 @@ fn next_calibrated(
 {
     let number = before.len() as u32 + 1;
     let dyeings = measured(book, number, dye.dyeing.as_slice())?;
-    Ok(Dye::of(dye.step, substrate.clone()?, dyeings))
+    Ok(Dye::of(Calibration::Line, dye.step, substrate.clone()?, dyeings))
 }
 
 /// The dyes, in order, calibrated on the substrate.

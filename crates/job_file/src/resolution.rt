@@ -17,7 +17,7 @@ use crate::limits::{grid_of, limits_of, most_steps};
 use crate::lists::{DyeList, WeightsList};
 use crate::read::JOB_POSITION;
 use crate::resolved::Resolved;
-use crate::strength::is_too_strong;
+use crate::strength::most_is_too_strong;
 use spectral_tables::{Curve, CurveBook, Weights};
 use std::alloc::Global;
 
@@ -68,12 +68,12 @@ pub fn resolve(
     let standard = curve_of(book, JOB_POSITION, job.standard.as_str())?;
     let dyes = calibrated(alloc, book, &substrate, job.dye.as_slice())?;
     let batch = batch_curve(book, &job.batch)?;
+    let limits = limits_of(&job);
     let most = most_steps(job.dye.as_slice());
     let base = base_curve(&substrate, &batch);
-    let strong = is_too_strong(base, &dyes, most.as_slice());
+    let strong = most_is_too_strong(base, &dyes, limits.bath.as_slice(), most.as_slice());
     JOB_POSITION.ensure(!strong, JobRule::TooStrong)?;
     let grid = grid_of(job.dye.as_slice());
-    let limits = limits_of(&job);
     Ok(Resolved {
         job,
         substrate,

@@ -1,5 +1,5 @@
 use job_file::{BatchRule, JobError, JobFault, JobRule, Part, read_job, resolve};
-use spectral_tables::{CurveBook, Weights, read_curves, read_weights};
+use spectral_tables::{CurveBook, TABLE_LIMIT, WaveGrid, Weights, read_curves, read_weights};
 use std::alloc::{AllocError, Global};
 use std::test::Fail;
 
@@ -28,18 +28,18 @@ fn table(alloc: Global, head: &str, line: &str, end: &str) -> Result<String, All
 
 fn book(alloc: Global) -> Option<CurveBook> {
     let text = table(alloc, "nm,p50,p30,p001", "50,30,0.01", "").ok()?;
-    if text.len() > 1_000_000 {
+    if text.len() as u64 > TABLE_LIMIT {
         return None;
     }
-    read_curves(alloc, text.as_bytes()).ok()
+    read_curves(alloc, text.as_bytes(), WaveGrid::Ten).ok()
 }
 
 fn weights(alloc: Global) -> Option<Weights> {
     let text = table(alloc, "nm,X,Y,Z", "1,1,1", "white,31,31,31\n").ok()?;
-    if text.len() > 1_000_000 {
+    if text.len() as u64 > TABLE_LIMIT {
         return None;
     }
-    read_weights(alloc, text.as_bytes()).ok()
+    read_weights(alloc, text.as_bytes(), WaveGrid::Ten).ok()
 }
 
 fn fault(part: Part, item: u32, sub: u32, rule: JobRule) -> Option<JobFault> {

@@ -6,7 +6,7 @@ use cielab_bounds::{Difference, Lab, laws};
 use cmc_bounds::Cmc;
 use fix_bounds::{Base, Iv, Quick, Scale};
 
-fn at<S: Scale>(parts: i128) -> Iv<S>
+pub(crate) fn at<S: Scale>(parts: i128) -> Iv<S>
     requires not_below { pos 0 ≤ℤ parts }
     requires magnitude { parts ≤ℤ pos (1000 * S.unit) }
     ensures { MagnitudeUpTo (1000 * S.unit) result }
@@ -14,7 +14,7 @@ fn at<S: Scale>(parts: i128) -> Iv<S>
     Iv::of_ends(parts, parts)
 }
 
-fn colour<S: Scale>(l: Iv<S>, a: Iv<S>, b: Iv<S>) -> Lab<S>
+pub(crate) fn colour<S: Scale>(l: Iv<S>, a: Iv<S>, b: Iv<S>) -> Lab<S>
     requires l { MagnitudeUpTo (1000 * S.unit) l }
     requires a { MagnitudeUpTo (1000 * S.unit) a }
     requires b { MagnitudeUpTo (1000 * S.unit) b }

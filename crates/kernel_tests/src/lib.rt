@@ -3,6 +3,8 @@
 #![tactic(auto)]
 
 #[cfg(test)]
+mod cie94;
+#[cfg(test)]
 mod cielab;
 #[cfg(test)]
 mod cmc;

@@ -1,8 +1,19 @@
-pub mod Additions
+mod BrokenLaws
+mod BrokenRanges
+mod Cases
+mod Chains
 pub mod ContributionLaws
+mod Means
 pub mod Nearness
-pub mod Ranges
+mod NodeFacts
+mod Orders
+mod Pieces
 mod Quotients
+pub mod Ranges
+mod Shapes
 mod Shares
+mod Stored
 mod Sums
+mod Units
 mod Values
+mod Walks

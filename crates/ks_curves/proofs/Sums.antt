@@ -13,7 +13,7 @@ use Rattle.interval_specs.proofs.Ranges.{sum_magnitude}
 use Rattle.ks_curves.specs.Dye.{Dyeing, IsDyeing}
 use Rattle.ks_curves.specs.Calibration.{weighted_addition, weighted_sum, square_sum}
 use Rattle.ks_curves.specs.Slope.{unit_sum}
-use Rattle.ks_curves.proofs.Additions.{sum-regroup, sum-nothing}
+use Rattle.interval_specs.proofs.Additions.{sum-regroup, sum-nothing}
 
 pub nothing-magnitude : (k : ℕ) → MagnitudeUpTo k nothing
 nothing-magnitude k = record { ordered = omega (arith, ints); small = omega (arith, ints) }

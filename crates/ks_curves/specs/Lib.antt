@@ -1,5 +1,11 @@
 pub mod KubelkaMunk
 pub mod Dye
+pub mod BrokenLine
+pub mod Order
 pub mod Calibration
 pub mod Slope
+pub mod StoredNode
+pub mod Walk
+pub mod Nodes
+pub mod Shape
 pub mod Laws

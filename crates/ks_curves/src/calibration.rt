@@ -1,6 +1,8 @@
 //! The slope of a dye's calibration at a wavelength: its numerator at a scale, and its denominator.
 
-ghost use Rattle.std.specs.Prelude.{◌≡◌, ℕ, ◌*◌, ◌^◌, ◌<◌, ◌≤◌, All, length};
+ghost use Rattle.std.specs.Prelude.{◌≡◌, ℕ, ◌*◌, ◌^◌, ◌<◌, ◌≤◌, All, length, slice_index};
+ghost use Rattle.interval_specs.specs.Operations.{difference_of};
+ghost use Rattle.ks_curves.specs.KubelkaMunk.{ks_at};
 ghost use Rattle.interval_specs.specs.Ranges.{MagnitudeUpTo, UpTo};
 ghost use Rattle.spectral_tables.specs.Curve.{IsCurve};
 ghost use Rattle.ks_curves.specs.Dye.{IsDyeing};
@@ -11,6 +13,16 @@ use crate::kubelka_munk::ks;
 use fix_bounds::{Iv, Scale};
 use spectral_tables::Curve;
 
+/// What a dyeing adds to the K/S of the substrate at a wavelength.
+pub(crate) fn added<S: Scale>(substrate: &Curve, dyed: &Curve, wave: usize) -> Iv<S>
+    requires substrate { wave < length substrate.now }
+    requires dyed { wave < length dyed.now }
+    ensures is { result ≡ difference_of (ks_at S.unit (slice_index dyed.now wave)) (ks_at S.unit (slice_index substrate.now wave)) }
+    ensures range { MagnitudeUpTo (10 ^ 4 * S.unit) result }
+{
+    ks::<S>(dyed.at(wave)).sub(ks(substrate.at(wave)))
+}
+
 /// What a dyeing adds to the K/S of the substrate at a wavelength, times its units.
 fn weighted_addition<S: Scale>(substrate: &Curve, units: u32, dyed: &Curve, wave: usize) -> Iv<S>
     requires substrate { wave < length substrate.now }
@@ -19,8 +31,7 @@ fn weighted_addition<S: Scale>(substrate: &Curve, units: u32, dyed: &Curve, wave
     ensures is { result ≡ weighted_addition S.unit substrate.now wave (units, dyed.now) }
     ensures range { MagnitudeUpTo (units * (10 ^ 4 * S.unit)) result }
 {
-    let addition = ks::<S>(dyed.at(wave)).sub(ks(substrate.at(wave)));
-    addition.scale_by(i64::from(units))
+    added::<S>(substrate, dyed, wave).scale_by(i64::from(units))
 }
 
 /// The sum over the dyeings of what each adds, times its units.
@@ -54,14 +65,22 @@ pub(crate) fn numerator<S: Scale>(substrate: &Curve, dyeings: &[(u32, Curve)], w
 pub(crate) fn square_sum(dyeings: &[(u32, Curve)]) -> u64
     requires few { length dyeings.now ≤ 8 }
     requires units { All (λ d. d.0 ≤ 20000) dyeings.now }
-    ensures is { result ≡ square_sum dyeings.now }
-    ensures curves { All (λ d. IsCurve d.1) dyeings.now }
+    ensures { result ≡ square_sum dyeings.now }
 {
     let mut sum = 0;
-    for (units, dyed) in dyeings {
-        // called for its contract alone: the reflectances are those of a curve
-        let _ = dyed.waves();
+    for (units, _) in dyeings {
         sum += u64::from(*units) * u64::from(*units);
     }
     sum
+}
+
+/// Called for its contract alone: the reflectances are those of curves.
+pub(crate) fn are_curves(substrate: &Curve, dyeings: &[(u32, Curve)])
+    ensures substrate { IsCurve substrate.now }
+    ensures dyeings { All (λ d. IsCurve d.1) dyeings.now }
+{
+    let _ = substrate.waves();
+    for (_, dyed) in dyeings {
+        let _ = dyed.waves();
+    }
 }

@@ -11,6 +11,17 @@ pub(crate) fn near_value(slope: u64, units: u32) -> u64 {
     low_word(u128::from(slope).wrapping_mul(u128::from(units)) >> 24)
 }
 
+/// A guess at 2^64 over a distance.
+pub(crate) fn near_inverse(distance: u32) -> u64 {
+    0xFFFF_FFFF_FFFF_FFFF / u64::from(distance.max(1))
+}
+
+/// A guess at a number of up to 64 bits over a distance, from that at 2^64 over it.
+#[inline(always)]
+pub(crate) fn near_share(x: u128, inverse: u64) -> u64 {
+    low_word(u128::from(low_word(x)) * u128::from(inverse) >> 64)
+}
+
 /// The lower 64 bits.
 #[inline(always)]
 fn low_word(x: u128) -> u64 {

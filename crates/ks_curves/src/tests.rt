@@ -1,3 +1,6 @@
+ghost use Rattle.std.specs.Prelude.{◌≡◌, replicate};
+ghost use Rattle.spectral_tables.specs.Curve.{IsReflectance};
+
 use super::*;
 use crate::near::{near_slope, near_value};
 use arrayvec::ArrayVec;
@@ -8,14 +11,22 @@ fn ends<S: Scale>(iv: Iv<S>) -> (i128, i128) {
     (iv.lo(), iv.hi())
 }
 
+// A cloth that reflects equally much at each wavelength.
+fn even(millionths: u32) -> Curve
+    requires { IsReflectance millionths }
+    ensures { result ≡ replicate 31 millionths }
+{
+    Curve::of(&[millionths; 31])
+}
+
 #[test]
 fn a_dye_of_one_dyeing(rt: HostRuntime) {
     let mut dyeings = ArrayVec::new();
-    dyeings.push((1000, Curve::of(&[300_000; 31])));
-    let dye = Dye::of(10, Curve::of(&[500_000; 31]), dyeings);
+    dyeings.push((1000, even(300_000)));
+    let dye = Dye::of(Calibration::Line, 10, even(500_000), dyeings);
     let mut lighter = ArrayVec::new();
-    lighter.push((1000, Curve::of(&[1_000_000; 31])));
-    let lightening = Dye::of(10, Curve::of(&[500_000; 31]), lighter);
+    lighter.push((1000, even(1_000_000)));
+    let lightening = Dye::of(Calibration::Line, 10, even(500_000), lighter);
     for (name, iv, lo, hi) in [
         ("K/S", ks::<Base>(300_000), 816_666_666_666, 816_666_666_667),
         ("no step", contribution(&dye, 0, 7), 0, 0),
@@ -48,6 +59,50 @@ fn a_dye_of_one_dyeing(rt: HostRuntime) {
     }
     assert_eq!(rt; ends(contribution::<Quick>(&dye, 1, 0)), (566_666, 566_667));
     assert_eq!(rt; (dye.waves(), dye.step()), (31, 10));
+}
+
+// The node of 1000 units lies on the substrate itself, so the line falls from 500 units on.
+#[test]
+fn a_broken_line(rt: HostRuntime) {
+    let mut dyeings = ArrayVec::new();
+    dyeings.push((1000, even(500_000)));
+    dyeings.push((500, even(300_000)));
+    let dye = Dye::of(Calibration::Broken, 10, even(500_000), dyeings);
+    assert_eq!(rt;
+        ends::<Base>(contribution(&dye, 75, 7)),
+        (283_333_333_333, 283_333_333_334)
+    );
+    assert_eq!(rt;
+        ends::<Base>(contribution_units(&dye, 250, 1000, 0)),
+        (0, 566_666_666_667)
+    );
+    assert_eq!(rt; ends::<Base>(contribution(&dye, 100, 30)), (0, 0));
+    assert_eq!(rt; ends::<Base>(contribution(&dye, 200, 7)), (0, 0));
+    assert_eq!(rt; ends::<Base>(addition_range(&dye, 50, 0, 0, 7)), (0, 0));
+    assert_eq!(rt;
+        ends::<Base>(addition_range(&dye, 50, 50, 50, 7)),
+        (-566_666_666_667, -566_666_666_666)
+    );
+    assert_eq!(rt;
+        ends(contribution::<Quick>(&dye, 75, 7)),
+        (28_333_333, 28_333_334)
+    );
+}
+
+// Past the last node the line goes on through the origin: its slope is that node's share.
+#[test]
+fn past_the_last_node(rt: HostRuntime) {
+    let mut dyeings = ArrayVec::new();
+    dyeings.push((500, even(300_000)));
+    let dye = Dye::of(Calibration::Broken, 10, even(500_000), dyeings);
+    assert_eq!(rt;
+        ends::<Base>(contribution(&dye, 150, 7)),
+        (1_699_999_999_998, 1_700_000_000_001)
+    );
+    assert_eq!(rt;
+        ends::<Base>(contribution_units(&dye, 40_000, 40_000, 7)),
+        (45_333_333_333_280, 45_333_333_333_360)
+    );
 }
 
 /// A wrong guess only costs time, so no clause rules it out: this test counts the wrong ones, for

@@ -1,12 +1,12 @@
 -- The meaning of a verdict on a light holds, and a pass or a fail stays one at every finer scale.
-use Rattle.std.proofs.Common.{ℕ, pos, ◌≡◌, Bool, true, false, ◌+◌, ◌*◌, ◌<◌, ◌*ℤ◌, ◌≤ℤ◌, if◌then◌else◌, int_le, int_lt, arith, refl}
+use Rattle.std.proofs.Common.{ℕ, pos, ◌≡◌, ◌↔◌, Bool, true, false, Option, Some, ◌+◌, ◌*◌, ◌<◌, ◌*ℤ◌, ◌≤ℤ◌, if◌then◌else◌, int_le, int_lt, arith, refl, subst, sym}
 use Rattle.std.proofs.lemmas.Int.{ints}
 use Rattle.interval_specs.specs.Ends.{Ends, IsOrdered}
 use Rattle.interval_specs.specs.Encloses.{Encloses}
 use Rattle.interval_specs.proofs.Laws.{le_refuses, le_test, lt_test}
 use Rattle.interval_specs.proofs.Order.{parts, by_parts, by_parts_lt, to_parts, mono_left}
 use Rattle.metamerism.specs.Laws.{VerdictStays}
-use Rattle.metamerism.specs.Verdicts.{IsFail, IsPass, LightVerdictHolds, light_verdict}
+use Rattle.metamerism.specs.Verdicts.{IsFail, IsPass, LightVerdictHolds, is_certain_fail, light_verdict}
 use Rattle.metamerism.specs.declared.outcomes.Verdict.{Verdict}
 use Rattle.metamerism.specs.declared.outcomes.Verdict.TheVariants.{Fail, Pass, Undecided}
 
@@ -89,3 +89,15 @@ verdict_finer n m t number d d' some h = by (int_le (pos 1000 *ℤ d.hi) (pos (t
     by true f is_p is_f = pass_finer t n m d d' h (omega (arith, ints))
     by false true is_p is_f = fail_finer t n m d d' some h (omega (arith, ints))
     by false false is_p is_f = tt
+
+-- what is certain by a verdict under a light holds of the difference, and the other way round
+abbrev pub Decides : ℕ → ℕ → Ends → Option Bool → Type 0
+Decides n t d r = ((r ≡ Some true) ↔ IsFail n t d) × ((r ≡ Some false) ↔ IsPass n t d)
+
+by_says : (n t : ℕ) (d : Ends) (v : Verdict) → IsOrdered d → LightSays n t 1 d v → Decides n t d (is_certain_fail v)
+by_says n t d Pass o s = ((λ e. absurd (cc e), λ f. absurd (s.1 f)), (λ e. s.0, λ p. refl))
+by_says n t d (Fail k) o s = ((λ e. s.1, λ f. refl), (λ e. absurd (cc e), λ p. absurd (not_both n t d o p s.1)))
+by_says n t d Undecided o s = ((λ e. absurd (cc e), λ f. absurd (s.1 f)), (λ e. absurd (cc e), λ p. absurd (s.0 p)))
+
+pub decides : (n t : ℕ) (d : Ends) (v : Verdict) (r : Option Bool) → IsOrdered d → v ≡ light_verdict n t 1 d → r ≡ is_certain_fail v → Decides n t d r
+decides n t d v r o e h = subst (Decides n t d) (sym h) (by_says n t d v o (subst (LightSays n t 1 d) (sym e) (light_says n t 1 d o)))

@@ -1,5 +1,10 @@
+pub mod Correction
 pub mod Difference
 pub mod Few
+pub mod Kept
+pub mod Places
+pub mod Shared
 pub mod Lights
+pub mod LightOf
 pub mod Verdicts
 pub mod Laws

@@ -1,5 +1,5 @@
 -- Verdicts on differences against tolerances in thousandths, at scale n.
-use Rattle.std.specs.Prelude.{◌≡◌, ℕ, ◌+◌, ◌*◌, ◌<◌, pos, ◌*ℤ◌, ◌≤ℤ◌, ◌<ℤ◌, List, [], ◌∷◌, Some, slice_get, int_le, int_lt, if◌then◌else◌}
+use Rattle.std.specs.Prelude.{◌≡◌, ℕ, ◌+◌, ◌*◌, ◌<◌, pos, ◌*ℤ◌, ◌≤ℤ◌, ◌<ℤ◌, List, [], ◌∷◌, Bool, true, false, Option, Some, None, slice_get, int_le, int_lt, if◌then◌else◌}
 use Rattle.interval_specs.specs.Ends.{Ends}
 use Rattle.metamerism.specs.declared.outcomes.Verdict.{Verdict}
 use Rattle.metamerism.specs.declared.outcomes.Verdict.TheVariants.{Fail, Pass, Undecided}
@@ -18,6 +18,17 @@ light_verdict n tolerance number delta =
     if int_le (pos 1000 *ℤ delta.hi) (pos (tolerance * n)) then Pass
     else (if int_lt (pos (tolerance * n)) (pos 1000 *ℤ delta.lo) then Fail number
     else Undecided)
+
+-- whether a verdict makes it certain that the sample fails; nothing, where it is neither certain
+-- nor ruled out
+abbrev pub is_certain_fail : Verdict → Option Bool
+is_certain_fail Pass = Some false
+is_certain_fail (Fail number) = Some true
+is_certain_fail Undecided = None
+
+-- whether the sample fails under a light, where the difference at scale n decides it
+abbrev pub decision_at : ℕ → ℕ → Ends → Option Bool
+decision_at n tolerance delta = is_certain_fail (light_verdict n tolerance 1 delta)
 
 -- what the verdict on the difference under a light means: `Pass`, that its upper end is within the
 -- tolerance; `Fail`, that its lower end is above it; `Undecided`, nothing

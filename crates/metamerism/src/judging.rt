@@ -1,11 +1,14 @@
 //! Judging differences against tolerances.
 
-ghost use Rattle.std.specs.Prelude.{◌≡◌, ◌^◌, ◌≤◌, length};
+ghost use Rattle.std.specs.Prelude.{◌≡◌, ◌≤◌, ◌↔◌, true, false, Some, length};
+ghost use Rattle.interval_specs.specs.Ends.{IsOrdered};
 ghost use Rattle.arrayvec.specs.ArrayVec.{array_vec_len};
 ghost use Rattle.metamerism.specs.Lights.{lights_of, tolerances_of};
-ghost use Rattle.metamerism.specs.Verdicts.{light_verdict, verdict_at};
+ghost use Rattle.metamerism.specs.Verdicts.{IsFail, IsPass, decision_at, light_verdict, verdict_at};
+ghost use Rattle.fix_bounds.specs.Scales.{base_unit};
 
 use crate::lights::Lights;
+use crate::one_light::Light;
 use crate::outcomes::{Deltas, Verdict};
 use cielab_bounds::Difference;
 use fix_bounds::{Base, Iv, Scale, unit};
@@ -15,7 +18,8 @@ use fix_bounds::{Base, Iv, Scale, unit};
 #[tactic(auto, unfolding(crate::specs::Verdicts::light_verdict))]
 fn judge_at<S: Scale>(tolerance: u32, number: u8, delta: Iv<S>) -> Verdict
     requires { tolerance ≤ 100000 }
-    ensures { result ≡ light_verdict S.unit tolerance number delta }
+    ensures is { result ≡ light_verdict S.unit tolerance number delta }
+    ensures ordered { IsOrdered delta }
 {
     let bound = i128::from(u64::from(tolerance) * unit::<S>());
     if 1000 * delta.hi() <= bound {
@@ -31,9 +35,19 @@ fn judge_at<S: Scale>(tolerance: u32, number: u8, delta: Iv<S>) -> Verdict
 /// thousandths.
 pub fn judge_light(tolerance: u32, number: u8, delta: Iv<Base>) -> Verdict
     requires { tolerance ≤ 100000 }
-    ensures { result ≡ light_verdict (10 ^ 12) tolerance number delta }
+    ensures { result ≡ light_verdict base_unit tolerance number delta }
 {
     judge_at(tolerance, number, delta)
+}
+
+/// What the difference at this scale decides under the light: whether the sample fails, or nothing,
+/// where the tolerance lies between its ends.
+pub fn decide<S: Scale, D: Difference<S>>(light: &Light<S, D>, delta: Iv<S>) -> Option<bool>
+    ensures is { result ≡ decision_at S.unit light.now.tolerance delta }
+    ensures fails { (result ≡ Some true) ↔ IsFail S.unit light.now.tolerance delta }
+    ensures passes { (result ≡ Some false) ↔ IsPass S.unit light.now.tolerance delta }
+{
+    judge_at(light.tolerance, 1, delta).certain_fail()
 }
 
 /// The verdict on a sample by its differences under the lights, one for each light.

@@ -1,5 +1,5 @@
 //! The laws of differences and verdicts. A call does nothing; what it ensures is the law.
-ghost use Rattle.metamerism.specs.Laws.{ColourInRange, EnclosesFiner, EnclosesNarrower, VerdictIsTrue, VerdictStays};
+ghost use Rattle.metamerism.specs.Laws.{ColourInRange, CorrectedEnclose, CorrectedInRange, EnclosesFiner, EnclosesNarrower, VerdictIsTrue, VerdictStays};
 
 use cielab_bounds::Formula;
 
@@ -8,8 +8,15 @@ pub fn colour()
     ensures { ColourInRange }
 {}
 
-/// The law of the difference under a light by any formula: from scale 10^6 on, it encloses that of
-/// narrower spectra at each finer scale.
+/// The range of corrected ratios, and their law: they enclose those of narrower ratios, at the same
+/// scale and at each finer one.
+pub fn corrected_ratios()
+    ensures range { CorrectedInRange }
+    ensures encloses { CorrectedEnclose }
+{}
+
+/// The law of the difference under a light by any formula, corrected or not: from scale 10^6 on, it
+/// encloses that of narrower spectra at each finer scale.
 pub fn finer<D: Formula>(rule: &D)
     ensures { EnclosesFiner (D.value rule.now) }
 {}

@@ -36,7 +36,18 @@ impl Default for Verdict {
 
 impl Verdict {
     ghost use Rattle.std.specs.Prelude.{◌≡◌};
-    ghost use Rattle.metamerism.specs.Verdicts.{joint};
+    ghost use Rattle.metamerism.specs.Verdicts.{is_certain_fail, joint};
+
+    /// Is it certain that the sample fails? `None` if it is neither certain nor ruled out.
+    pub(crate) fn certain_fail(self) -> Option<bool>
+        ensures { result ≡ is_certain_fail self }
+    {
+        match self {
+            Verdict::Pass => Some(false),
+            Verdict::Fail(_) => Some(true),
+            Verdict::Undecided => None,
+        }
+    }
 
     /// The verdict on two groups of lights together: `self` is that on the group with the lower
     /// numbers, and `after` that on the other.

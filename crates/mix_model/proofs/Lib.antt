@@ -1,10 +1,14 @@
 mod BaseFacts
 pub mod ReflectanceRanges
 mod Quotients
-mod DivisorEnds
-mod ReflectanceEnds
+pub mod DivisorEnds
+pub mod ReflectanceEnds
 pub mod ReflectanceLaws
-pub mod MixtureLaws
+pub mod Doses
 mod Portions
+mod Moved
+pub mod MixtureLaws
+pub mod StrengthLaws
+mod Narrowing
 mod QuickScale
 mod Examples

@@ -17,14 +17,14 @@ magnitudes_ordered : (d : Ends) → pos 0 <ℤ d.lo → d.lo ≤ℤ d.hi → uns
 magnitudes_ordered d some o = omega (arith, ints)
 
 -- the two ends of 1 / d
-one_lower : (n : ℕ) (d : Ends) → pos 0 <ℤ d.lo → d.lo ≤ℤ d.hi → pos (n * n / unsigned_abs d.hi) ≡ (quotient_at n (one_at n) d).lo
+pub one_lower : (n : ℕ) (d : Ends) → pos 0 <ℤ d.lo → d.lo ≤ℤ d.hi → pos (n * n / unsigned_abs d.hi) ≡ (quotient_at n (one_at n) d).lo
 unfolding one_at
 one_lower n d some o =
     floor_of_natural (n * n) (unsigned_abs d.hi)
     ∙ sym (quotient_lower n (one_at n) d some o (refl_ℤ (pos n))
     ∙ min_second (floor_over (pos (n * n)) (unsigned_abs d.lo)) (floor_over (pos (n * n)) (unsigned_abs d.hi)) (floor_far (pos (n * n)) (unsigned_abs d.lo) (unsigned_abs d.hi) (magnitude_positive d.lo some) (magnitudes_ordered d some o) (omega (arith, ints))))
 
-one_upper : (n : ℕ) (d : Ends) → pos 0 <ℤ d.lo → d.lo ≤ℤ d.hi → pos (div_ceil (n * n) (unsigned_abs d.lo)) ≡ (quotient_at n (one_at n) d).hi
+pub one_upper : (n : ℕ) (d : Ends) → pos 0 <ℤ d.lo → d.lo ≤ℤ d.hi → pos (div_ceil (n * n) (unsigned_abs d.lo)) ≡ (quotient_at n (one_at n) d).hi
 unfolding one_at
 one_upper n d some o =
     ceil_of_natural (n * n) (unsigned_abs d.lo) (div_ceil (n * n) (unsigned_abs d.lo)) (magnitude_positive d.lo some) refl

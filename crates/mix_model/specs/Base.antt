@@ -2,7 +2,7 @@
 use Rattle.std.specs.Prelude.{ℕ, ◌*◌, List, All, length, map}
 use Rattle.interval_specs.specs.Ends.{Ends}
 use Rattle.interval_specs.specs.Ranges.{UpTo}
-use Rattle.spectral_tables.specs.Curve.{IsWaveCount}
+use Rattle.spectral_tables.specs.Grid.{IsWaveCount}
 use Rattle.ks_curves.specs.KubelkaMunk.{ks_at}
 
 -- the K/S of each reflectance of a curve, at scale n

@@ -8,11 +8,8 @@ ghost use Rattle.mix_model.specs.Base.{IsBase, base_at};
 use arrayvec::ArrayVec;
 use fix_bounds::{Iv, Scale};
 use ks_curves::ks;
-use spectral_tables::Curve;
+use spectral_tables::{Curve, MOST_WAVES};
 use std::marker::{Model, PhantomData};
-
-/// How many wavelengths a base may have.
-pub(crate) const MOST_WAVES: usize = 31;
 
 /// The K/S of a measured curve at each wavelength, at the scale `S`. A `wave` is the index of a
 /// wavelength.

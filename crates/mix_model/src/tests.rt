@@ -1,13 +1,34 @@
+ghost use Rattle.std.specs.Prelude.{◌≡◌, replicate};
+ghost use Rattle.spectral_tables.specs.Curve.{IsReflectance};
+ghost use Rattle.mix_model.specs.Samples.{rust};
+
 use super::*;
 use crate::by_unit::{near_over_unit, over_unit};
 use crate::reflectance::{divisor_up, near_reflectance};
 use arrayvec::ArrayVec;
 use fix_bounds::{Base, Iv, Quick, Scale, unit};
-use ks_curves::{Dye, quotient};
+use ks_curves::{Calibration, Dye, quotient};
 use spectral_tables::Curve;
 
 fn ends<S: Scale>(iv: Iv<S>) -> (i128, i128) {
     (iv.lo(), iv.hi())
+}
+
+// A cloth that reflects equally much at each wavelength.
+fn even(millionths: u32) -> Curve
+    requires { IsReflectance millionths }
+    ensures { result ≡ replicate 31 millionths }
+{
+    Curve::of(&[millionths; 31])
+}
+
+// A dye of one dyeing, in steps of 10 units.
+fn rust() -> Dye
+    ensures { result ≡ rust }
+{
+    let mut dyeings = ArrayVec::new();
+    dyeings.push((1000, even(300_000)));
+    Dye::of(Calibration::Line, 10, even(500_000), dyeings)
 }
 
 // Half the light is reflected where K/S is a quarter, and all of it where K/S is 0. A cloth that
@@ -20,19 +41,58 @@ fn mixtures(rt: HostRuntime) {
         ends(reflect(Iv::<Base>::default())),
         (1_000_000_000_000, 1_000_000_000_000)
     );
-    let mut dyeings = ArrayVec::new();
-    dyeings.push((1000, Curve::of(&[300_000; 31])));
-    let dyes = [Dye::of(10, Curve::of(&[500_000; 31]), dyeings)];
-    let base: BaseCurve<Base> = BaseCurve::of(&Curve::of(&[500_000; 31]));
+    let dyes = [rust()];
+    let base: BaseCurve<Base> = BaseCurve::of(&even(500_000));
     assert_eq!(rt; base.waves(), 31);
     assert_eq!(rt; ends(base.at(30)), (250_000_000_000, 250_000_000_000));
-    let dyed = mix(&base, &dyes, &[100], &[100]).at(7);
+    let dyed = mix(&base, &dyes, &[0], &[100], &[100]).at(7);
     assert!(rt; dyed.lo() <= 300_000_000_000 && 300_000_000_000 <= dyed.hi());
     assert!(rt; dyed.hi() - dyed.lo() <= 3);
-    let sum = mixture_ks(&base, &dyes, &[0], &[100], 30);
-    assert_eq!(rt; ends(sum), (250_000_000_000, 816_666_666_667));
-    let any = mix(&base, &dyes, &[0], &[100]).at(30);
+    let sums = Sums::of(&base, &dyes, &[0], &[0], &[100]);
+    assert_eq!(rt; ends(sums.at(30)), (250_000_000_000, 816_666_666_667));
+    let any = mix(&base, &dyes, &[0], &[0], &[100]).at(30);
     assert_eq!(rt; ends(any), (dyed.lo(), 500_000_000_000));
+    assert_eq!(rt; ends(sums.spectrum().at(30)), ends(any));
+}
+
+// The sums of up to four steps of a dye, narrowed to one to four steps.
+#[test]
+fn a_narrowed_box(rt: HostRuntime) {
+    let dyes = [rust()];
+    let base: BaseCurve<Base> = BaseCurve::of(&even(500_000));
+    let sums = Sums::of(&base, &dyes, &[0], &[0], &[4]);
+    assert_eq!(rt; ends(sums.at(30)), (250_000_000_000, 272_666_666_667));
+    let narrowed = sums.narrow(&dyes, &[0], 0, (0, 4), (1, 4));
+    assert_eq!(rt; ends(narrowed.at(30)), (255_666_666_666, 272_666_666_667));
+}
+
+// Whether two sums are the same at each wavelength.
+fn are_same(one: &Sums<Base>, other: &Sums<Base>) -> bool {
+    for wave in 0..one.waves() {
+        if wave >= other.waves() || ends(one.at(wave)) != ends(other.at(wave)) {
+            return false;
+        }
+    }
+    one.waves() == other.waves()
+}
+
+// Boxes narrowed one after the other have the sums that are computed for each box anew.
+#[test]
+fn boxes_narrowed_in_turn(rt: HostRuntime) {
+    let dyes = [rust(), rust()];
+    let base: BaseCurve<Base> = BaseCurve::of(&even(500_000));
+    let first = Sums::of(&base, &dyes, &[0, 0], &[0, 0], &[9, 7]);
+    let second = first.narrow(&dyes, &[0, 0], 0, (0, 9), (1, 9));
+    let second_anew = Sums::of(&base, &dyes, &[0, 0], &[1, 0], &[9, 7]);
+    assert!(rt; are_same(&second, &second_anew));
+    let third = second.narrow(&dyes, &[0, 0], 1, (0, 7), (0, 3));
+    let third_anew = Sums::of(&base, &dyes, &[0, 0], &[1, 0], &[9, 3]);
+    assert!(rt; are_same(&third, &third_anew));
+    let last = third.narrow(&dyes, &[0, 0], 0, (1, 9), (5, 5));
+    let last_anew = Sums::of(&base, &dyes, &[0, 0], &[5, 0], &[5, 3]);
+    assert!(rt; are_same(&last, &last_anew));
+    assert!(rt; !are_same(&first, &last));
+    assert_eq!(rt; ends(last.at(0)), (278_333_333_333, 295_333_333_335));
 }
 
 /// A wrong guess only costs time, so no clause rules it out: this test counts the wrong ones, for

@@ -1,6 +1,6 @@
 -- The law of the differences of recipes: a chain of the laws of the base, of mixing, of spectra and
 -- of the difference.
-use Rattle.std.proofs.Common.{◌*◌, ◌^◌, ◌≤◌, ◌<◌, ◌*ℤ◌, ℕ, pos, List, [], ◌∷◌, All, arith}
+use Rattle.std.proofs.Common.{◌*◌, ◌^◌, ◌≤◌, ◌<◌, ◌*ℤ◌, ℕ, pos, None, List, [], ◌∷◌, All, arith}
 use Rattle.std.specs.List.{AllZip}
 use Rattle.std.proofs.lemmas.List.Elements.{All-cons, All-tail}
 use Rattle.interval_specs.specs.Ends.{Ends}
@@ -15,14 +15,14 @@ use Rattle.job_file.specs.Resolve.{base_curve}
 use Rattle.metamerism.proofs.DifferenceLaws.{encloses_finer}
 use Rattle.mix_model.specs.Base.{base_at}
 use Rattle.mix_model.specs.Mixture.{portions}
-use Rattle.mix_model.proofs.MixtureLaws.{base_encloses, mixture_encloses}
+use Rattle.mix_model.proofs.MixtureLaws.{base_encloses, mixed_in_range, mixture_encloses}
 use Rattle.spectral_tables.specs.Laws.{EnclosesWaves}
 use Rattle.spectral_tables.specs.Spectrum.{spectrum_at}
 use Rattle.spectral_tables.specs.WeightTable.{IsWeightTable, WeightTable}
 use Rattle.spectral_tables.proofs.SpectrumLaws.{spectrum_encloses, spectrum_in_range}
 use Rattle.recipe_judge.specs.Evaluation.{differences_under, spectrum_of}
 use Rattle.recipe_judge.specs.Laws.{DifferencesEnclose}
-use Rattle.recipe_judge.proofs.Boxes.{can_mix, mixed_in_range, portions_ordered}
+use Rattle.recipe_judge.proofs.Boxes.{can_mix, portions_ordered}
 
 -- what is enclosed by an interval from 0 to 1 is itself from 0 to 1
 finer_up_to : (n m : ℕ) (a b : Ends) → UpTo n a → Encloses m a b → UpTo (m * n) b
@@ -42,7 +42,7 @@ lights_enclose : (n m : ℕ) (lights : List JobLight) (tables : List WeightTable
 lights_enclose n m [] tables standard sample standard' sample' least some kept p q h g = tt
 lights_enclose n m (l ∷ lights) [] standard sample standard' sample' least some kept p q h g = tt
 lights_enclose n m (l ∷ lights) (w ∷ tables) standard sample standard' sample' least some kept p q h g = (
-  encloses_finer (cmc_at l.l10 l.c10) (cmc_encloses l.l10 l.c10) n m w standard sample standard' sample' least some (kept 0 w (omega arith)) p q
+  encloses_finer (cmc_at l.l10 l.c10) (cmc_encloses l.l10 l.c10) None n m w standard sample standard' sample' least some (kept 0 w (omega arith)) p q
       (waves_up_to n m standard standard' p h) (waves_up_to n m sample sample' q g) h g,
   lights_enclose n m lights tables standard sample standard' sample' least some (All-tail IsWeightTable w tables kept) p q h g,
 )
@@ -50,9 +50,9 @@ lights_enclose n m (l ∷ lights) (w ∷ tables) standard sample standard' sampl
 pub differences_enclose : DifferencesEnclose
 differences_enclose r low high land h g m some =
     let curve = base_curve r.substrate r.batch in
-    let ordered = portions_ordered r.dyes low high h in
+    let ordered = portions_ordered r.dyes r.limits.bath low high h in
     lights_enclose (10 ^ 12) m r.job.light r.weights (spectrum_at (10 ^ 12) r.standard) (spectrum_of (10 ^ 12) r low high) (spectrum_at (m * 10 ^ 12) r.standard) (spectrum_of (m * 10 ^ 12) r low high)
     (omega arith) some land.weights (spectrum_in_range (10 ^ 12) r.standard land.standard).range
-    (mixed_in_range (10 ^ 12) (base_at (10 ^ 12) curve) (portions r.dyes low high) (omega arith) land.base ordered (can_mix r low high land.found land.grid h g).reflects)
+    (mixed_in_range (10 ^ 12) (base_at (10 ^ 12) curve) (portions r.dyes r.limits.bath low high) (omega arith) land.base ordered (can_mix r low high land.found land.grid h g).reflects)
     (spectrum_encloses (10 ^ 12) m r.standard)
-    (mixture_encloses (10 ^ 12) m (base_at (10 ^ 12) curve) (base_at (m * 10 ^ 12) curve) (portions r.dyes low high) (omega arith) some land.base (base_encloses (10 ^ 12) m curve) ordered)
+    (mixture_encloses (10 ^ 12) m (base_at (10 ^ 12) curve) (base_at (m * 10 ^ 12) curve) (portions r.dyes r.limits.bath low high) (omega arith) some (base_encloses (10 ^ 12) m curve) ordered)

@@ -1,12 +1,12 @@
 -- Boxes of the recipes of a grid.
-use Rattle.std.proofs.Common.{◌≡◌, ℕ, List, [], ◌∷◌, length, map, refl, true, arith}
+use Rattle.std.proofs.Common.{◌≡◌, ℕ, List, [], ◌∷◌, length, map, mul-le-mul_right, refl, true, arith}
 use Rattle.std.specs.List.{AllZip}
 use Rattle.std.proofs.lemmas.List.{length-map}
 use Rattle.std.proofs.lemmas.Slice.Eq.{bytes_eq-Decides}
 use Rattle.box_specs.specs.Span.{HasDyes, IsBox, IsInside, IsWithin, Span, is_single}
 use Rattle.ks_curves.specs.Dye.{DyeData}
 use Rattle.mix_model.specs.Laws as mixing
-use Rattle.mix_model.specs.Mixture.{portions}
+use Rattle.mix_model.specs.Mixture.{dosed, doses_of, portions}
 use Rattle.price_grid.specs.declared.dye_cost.DyeCost.{DyeCost}
 use Rattle.price_grid.specs.Grid.{IsGrid, IsRecipe, IsUpTo}
 use Rattle.recipe_judge.specs.Recipes.{all_recipes}
@@ -63,14 +63,17 @@ all_has_dyes grid kept =
     (omega (arith, dyes, kept.some), omega (arith, dyes, kept.few))
 
 -- the portions of a box are within those of a wider box
-pub portions_within : (dyes : List DyeData) (low high low' high' : List ℕ) → IsUpTo low low' → IsUpTo low' high' → IsUpTo high' high
-    → AllZip mixing.IsWithin (portions dyes low high) (portions dyes low' high')
-unfolding portions
-portions_within [] low high low' high' h k g = tt
-portions_within (d ∷ ds) [] high [] high' h k g = tt
-portions_within (d ∷ ds) [] high (l ∷ low') high' h k g = absurd h
-portions_within (d ∷ ds) (l ∷ low) high [] high' h k g = absurd h
-portions_within (d ∷ ds) (l ∷ low) high (l' ∷ low') [] h k g = absurd k
-portions_within (d ∷ ds) (l ∷ low) [] (l' ∷ low') (n' ∷ high') h k g = absurd g
-portions_within (d ∷ ds) (l ∷ low) (n ∷ high) (l' ∷ low') (n' ∷ high') h k g =
-    (record { dye = refl; fewest = h.0; ordered = k.0; most = g.0 }, portions_within ds low high low' high' h.1 k.1 g.1)
+pub portions_within : (dyes : List DyeData) (bath low high low' high' : List ℕ) → IsUpTo low low' → IsUpTo low' high' → IsUpTo high' high
+    → AllZip mixing.IsWithin (portions dyes bath low high) (portions dyes bath low' high')
+unfolding dosed doses_of
+portions_within [] bath low high low' high' h k g = tt
+portions_within (d ∷ ds) [] low high low' high' h k g = tt
+portions_within (d ∷ ds) (b ∷ bath) [] high [] high' h k g = tt
+portions_within (d ∷ ds) (b ∷ bath) [] high (l ∷ low') high' h k g = absurd h
+portions_within (d ∷ ds) (b ∷ bath) (l ∷ low) high [] high' h k g = absurd h
+portions_within (d ∷ ds) (b ∷ bath) (l ∷ low) high (l' ∷ low') [] h k g = absurd k
+portions_within (d ∷ ds) (b ∷ bath) (l ∷ low) [] (l' ∷ low') (n' ∷ high') h k g = absurd g
+portions_within (d ∷ ds) (b ∷ bath) (l ∷ low) (n ∷ high) (l' ∷ low') (n' ∷ high') h k g = (
+  record { dye = refl; bath = refl; from = mul-le-mul_right d.step h.0; ordered = mul-le-mul_right d.step k.0; upto = mul-le-mul_right d.step g.0 },
+  portions_within ds bath low high low' high' h.1 k.1 g.1,
+)

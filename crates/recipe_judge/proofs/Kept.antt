@@ -9,7 +9,7 @@ use Rattle.spectral_tables.specs.Spectrum.{spectrum_at}
 use Rattle.recipe_judge.specs.Evaluation.{differences_at, differences_under, spectrum_of, tolerances}
 use Rattle.recipe_judge.specs.Land.{KeepsLand}
 
-module _ (r : ResolvedJob) (limits : LimitsView) (base : List Ends) (of_lights : List ℕ) (deltas : List Ends → List Ends) (kept : KeepsLand r limits base of_lights deltas) where
+module _ (r : ResolvedJob) (limits : LimitsView) (base : List Ends) (of_lights : List ℕ) (deltas : List Ends → List Ends) (places : ℕ) (kept : KeepsLand r limits base of_lights deltas places) where
   -- as many tolerances as lights
   pub kept_lights : length of_lights ≡ length r.job.light
   kept_lights = ap length kept.tolerances_are ∙ length-map r.job.light (λ light. light.tolerance)

@@ -1,5 +1,6 @@
 mod FewItems
 mod Limits
+pub mod Waves
 pub mod Boxes
 pub mod FinerLaw
 pub mod GridBoxes

@@ -13,9 +13,9 @@ use Rattle.spectral_tables.specs.Spectrum.{spectrum_at}
 use Rattle.spectral_tables.specs.WeightTable.{WeightTable}
 
 -- the reflectances of the dyes on the cloth of the batch, or on the undyed cloth if there is no
--- batch
+-- batch. The bath is that of the job's limits, which has no dye
 abbrev pub spectrum_of : ℕ → ResolvedJob → (low high : List ℕ) → List Ends
-spectrum_of n r low high = mixed_at n (base_at n (base_curve r.substrate r.batch)) (portions r.dyes low high)
+spectrum_of n r low high = mixed_at n (base_at n (base_curve r.substrate r.batch)) (portions r.dyes r.limits.bath low high)
 
 -- the CMC(l:c) difference of a sample from the standard, each given by its spectrum, under a light
 -- with these weights

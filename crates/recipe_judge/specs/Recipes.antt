@@ -1,6 +1,6 @@
 -- The recipes of a job as a landscape: their box, costs and verdicts, and which limits exclude a
 -- box of them and which lights fail on it, all at the base scale.
-use Rattle.std.specs.Prelude.{◌*◌, ◌^◌, ℕ, zero, suc, pos, ◌*ℤ◌, Bool, true, false, int_lt, Option, Some, None, List, [], ◌∷◌, length, map}
+use Rattle.std.specs.Prelude.{◌*◌, ℕ, zero, suc, pos, ◌*ℤ◌, Bool, true, false, int_lt, Option, Some, None, List, [], ◌∷◌, length, map}
 use Rattle.interval_specs.specs.Ends.{Ends}
 use Rattle.box_specs.specs.declared.judged.Judged.{Judged}
 use Rattle.box_specs.specs.declared.judged.Judged.TheVariants as judged
@@ -15,6 +15,7 @@ use Rattle.price_grid.specs.Cost.{cost_of}
 use Rattle.price_grid.specs.Limits.{is_excluded}
 use Rattle.recipe_judge.specs.Evaluation.{differences_at, tolerances}
 use Rattle.recipe_judge.specs.Land.{over_batch}
+use Rattle.fix_bounds.specs.Scales.{base_unit}
 
 -- the box of all recipes of a grid: from no steps of each dye to its most
 abbrev pub all_recipes : List DyeCost → Span
@@ -63,7 +64,7 @@ recipe_land r = record {
   top = all_recipes r.grid;
   lights = length r.job.light;
   cost = λ steps. cost_of r.grid steps;
-  grade = λ steps. grade_of (verdict_at (10 ^ 12) (tolerances r.job.light) (differences_at (10 ^ 12) r steps steps));
+  grade = λ steps. grade_of (verdict_at base_unit (tolerances r.job.light) (differences_at base_unit r steps steps));
   excluded = λ limit b. is_excluded r.grid (over_batch r.limits r.job.batch) limit b.lo b.hi;
-  failing = λ light b. light_fails (10 ^ 12) (tolerances r.job.light) (differences_at (10 ^ 12) r b.lo b.hi) light;
+  failing = λ light b. light_fails base_unit (tolerances r.job.light) (differences_at base_unit r b.lo b.hi) light;
 }

@@ -1,6 +1,6 @@
 //! All recipes of a job, and what is computed once to judge them.
 
-ghost use Rattle.std.specs.Prelude.{◌≡◌, ◌^◌, IfOk};
+ghost use Rattle.std.specs.Prelude.{◌≡◌, IfOk};
 ghost use Rattle.job_file.specs.JobView.{job_view};
 ghost use Rattle.job_file.specs.ResolvedView.{resolved_view};
 ghost use Rattle.price_grid.specs.Grid.{IsGrid, IsRecipe};
@@ -8,6 +8,7 @@ ghost use Rattle.price_grid.specs.Limits.{FitGrid, limits_view};
 ghost use Rattle.metamerism.specs.Verdicts.{verdict_at};
 ghost use Rattle.recipe_judge.specs.Evaluation.{differences_at, tolerances};
 ghost use Rattle.recipe_judge.specs.Land.{IsLand, over_batch};
+ghost use Rattle.fix_bounds.specs.Scales.{base_unit};
 
 use crate::lights::lights_of;
 use batch_correct::{base_of, shift_limits};
@@ -34,7 +35,7 @@ pub struct RecipeLand {
 impl Model for RecipeLand {
     ghost use Rattle.job_file.specs.Resolve.{ResolvedJob};
     ghost use Rattle.job_file.specs.ResolvedView.{resolved_view};
-    ghost use Rattle.metamerism.specs.Lights.{deltas_under, tolerances_of};
+    ghost use Rattle.metamerism.specs.Lights.{deltas_under, places_of, tolerances_of};
     ghost use Rattle.price_grid.specs.Limits.{limits_view};
     ghost use Rattle.recipe_judge.specs.Land.{KeepsLand};
 
@@ -44,7 +45,7 @@ impl Model for RecipeLand {
 
     ghost invariant = { λ l.
         KeepsLand (resolved_view l.resolved) (limits_view l.limits) l.base
-        (tolerances_of l.lights) (deltas_under l.lights) };
+        (tolerances_of l.lights) (deltas_under l.lights) (places_of l.lights) };
 }
 
 /// The limits of a job, with the steps of the batch counted as in the bath, if there is a batch.
@@ -117,18 +118,19 @@ impl RecipeLand {
     pub fn differences(&self, steps: &Steps) -> Deltas<Base>
         requires { IsRecipe self.now.grid steps.now.items }
         ensures { result.each.items
-            ≡ differences_at (10 ^ 12) self.now steps.now.items steps.now.items }
+            ≡ differences_at base_unit self.now steps.now.items steps.now.items }
     {
         let dyes = self.resolved.dyes.as_slice();
-        let sample = mix(&self.base, dyes, steps.as_slice(), steps.as_slice());
+        let bath = self.resolved.limits.bath.as_slice();
+        let sample = mix(&self.base, dyes, bath, steps.as_slice(), steps.as_slice());
         deltas(&self.lights, &sample)
     }
 
     /// The verdict on a recipe against the tolerances of the lights.
     pub fn verdict_of(&self, steps: &Steps) -> Verdict
         requires { IsRecipe self.now.grid steps.now.items }
-        ensures { result ≡ verdict_at (10 ^ 12) (tolerances self.now.job.light)
-            (differences_at (10 ^ 12) self.now steps.now.items steps.now.items) }
+        ensures { result ≡ verdict_at base_unit (tolerances self.now.job.light)
+            (differences_at base_unit self.now steps.now.items steps.now.items) }
     {
         let deltas = self.differences(steps);
         verdict(&self.lights, &deltas)

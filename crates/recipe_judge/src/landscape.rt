@@ -1,12 +1,13 @@
 //! The recipes of a job as a landscape, which a search and a check can explore.
 
-ghost use Rattle.std.specs.Prelude.{◌≡◌, ◌^◌, true};
+ghost use Rattle.std.specs.Prelude.{◌≡◌, true};
 ghost use Rattle.box_specs.specs.Landscape.{light_of, limit_of};
 ghost use Rattle.box_specs.specs.Span.{IsInside, is_single};
 ghost use Rattle.price_grid.specs.Grid.{IsRecipe, IsUpTo};
 ghost use Rattle.spectral_tables.specs.Spectrum.{IsSpectrum};
 ghost use Rattle.recipe_judge.specs.Evaluation.{spectrum_of};
 ghost use Rattle.recipe_judge.specs.Recipes.{all_recipes, failing_light, grade_of, judged_from, recipe_land};
+ghost use Rattle.fix_bounds.specs.Scales.{base_unit};
 
 use crate::land::RecipeLand;
 use crate::verdicts::{light_fails, verdict_on};
@@ -62,11 +63,12 @@ impl RecipeLand {
     fn spectrum_over(&self, low: &Steps, high: &Steps) -> Spectrum<Base>
         requires ordered { IsUpTo low.now.items high.now.items }
         requires recipe { IsRecipe self.now.grid high.now.items }
-        ensures is { result ≡ spectrum_of (10 ^ 12) self.now low.now.items high.now.items }
-        ensures held { IsSpectrum (10 ^ 12) result }
+        ensures is { result ≡ spectrum_of base_unit self.now low.now.items high.now.items }
+        ensures held { IsSpectrum base_unit result }
     {
         let dyes = self.resolved.dyes.as_slice();
-        mix(&self.base, dyes, low.as_slice(), high.as_slice())
+        let bath = self.resolved.limits.bath.as_slice();
+        mix(&self.base, dyes, bath, low.as_slice(), high.as_slice())
     }
 
     /// The verdict on the recipes of a box together. It names the first light that fails on the

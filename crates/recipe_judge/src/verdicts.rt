@@ -1,11 +1,12 @@
 //! Judging samples under the lights of a job, one light at a time.
 
-ghost use Rattle.std.specs.Prelude.{◌≡◌, ◌^◌};
+ghost use Rattle.std.specs.Prelude.{◌≡◌};
 ghost use Rattle.interval_specs.specs.Ends.{IsOrdered};
 ghost use Rattle.spectral_tables.specs.WeightTable.{HasItemEachWave};
 ghost use Rattle.metamerism.specs.Lights.{FitsLights, delta_under, deltas_under, tolerances_of};
 ghost use Rattle.metamerism.specs.Verdicts.{light_verdict, verdict_at};
 ghost use Rattle.recipe_judge.specs.Recipes.{is_fail};
+ghost use Rattle.fix_bounds.specs.Scales.{base_unit};
 
 use cmc_bounds::Cmc;
 use fix_bounds::Base;
@@ -15,7 +16,7 @@ use spectral_tables::Spectrum;
 /// The verdict on a sample under the light with a number.
 fn verdict_under(light: &Light<Base, Cmc>, number: u8, sample: &Spectrum<Base>) -> Verdict
     requires { HasItemEachWave light.now.weights sample.now }
-    ensures is { result ≡ light_verdict (10 ^ 12) light.now.tolerance number
+    ensures is { result ≡ light_verdict base_unit light.now.tolerance number
         (delta_under light.now sample.now) }
     ensures ordered { IsOrdered (delta_under light.now sample.now) }
 {
@@ -25,7 +26,7 @@ fn verdict_under(light: &Light<Base, Cmc>, number: u8, sample: &Spectrum<Base>) 
 /// Whether a sample fails under a light.
 pub(crate) fn light_fails(light: &Light<Base, Cmc>, sample: &Spectrum<Base>) -> bool
     requires { HasItemEachWave light.now.weights sample.now }
-    ensures { result ≡ is_fail (10 ^ 12) light.now.tolerance (delta_under light.now sample.now) }
+    ensures { result ≡ is_fail base_unit light.now.tolerance (delta_under light.now sample.now) }
 {
     matches!(verdict_under(light, 1, sample), Verdict::Fail(_))
 }
@@ -34,7 +35,7 @@ pub(crate) fn light_fails(light: &Light<Base, Cmc>, sample: &Spectrum<Base>) -> 
 pub(crate) fn verdict_on(lights: &Lights<Base, Cmc>, sample: &Spectrum<Base>) -> Verdict
     requires { FitsLights lights.now sample.now }
     ensures { result
-        ≡ verdict_at (10 ^ 12) (tolerances_of lights.now) (deltas_under lights.now sample.now) }
+        ≡ verdict_at base_unit (tolerances_of lights.now) (deltas_under lights.now sample.now) }
 {
     let mut so_far = Verdict::Pass;
     for i in 0..lights.count() {

@@ -3,6 +3,7 @@ mod failures;
 mod files;
 mod hostile;
 mod jobs;
+mod promises;
 mod refusals;
 mod reports;
 mod searches;

@@ -2,6 +2,7 @@ mod AppendKeeps
 mod Changes
 mod CreateKeeps
 mod Files
+pub mod Filling
 mod Prefixes
 pub mod Keeping
 mod Promises

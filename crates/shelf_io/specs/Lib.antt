@@ -2,6 +2,7 @@ pub mod Calls
 pub mod Changes
 pub mod Contents
 pub mod Counts
+pub mod Filling
 pub mod Held
 pub mod MemShelf
 pub mod MemSink

@@ -1,6 +1,7 @@
-ghost use Rattle.std.specs.Prelude.{◌≡◌, ◌≤◌, ◌<◌, ℕ, vec_len, IfOk, OnOk, OnErr, IfSome, length, option_map};
+ghost use Rattle.std.specs.Prelude.{◌≡◌, ◌≤◌, ◌<◌, ℕ, vec_len, IfOk, OnOk, OnErr, IfSome, length, map, option_map};
 ghost use Rattle.shelf_io.specs.Contents.{put_bytes};
 ghost use Rattle.shelf_io.specs.Held.{SlotsHaveRoom, index_of};
+ghost use Rattle.shelf_io.specs.Filling.{IsFilled};
 ghost use Rattle.shelf_io.specs.MemShelf.{failing_shelf, fresh_shelf, shelf_contents, shelf_handed, shelf_with, short_reads};
 
 use crate::slot::Slot;
@@ -87,6 +88,24 @@ impl MemShelf {
         })
     }
 
+    /// A shelf made by `empty` with this room and these slots, into which these files have been put
+    /// in turn.
+    pub fn holding(
+        alloc: Global,
+        room: usize,
+        slots: usize,
+        files: &[(&str, &[u8])],
+    ) -> Result<MemShelf, AllocError>
+        ensures { IfOk result
+            (IsFilled room slots (map (λ f. (f.0.now, f.1.now)) files.now)) }
+    {
+        let mut shelf = MemShelf::empty(alloc, room, slots)?;
+        for (name, bytes) in files {
+            shelf.put_file(name, bytes)?;
+        }
+        Ok(shelf)
+    }
+
     /// Puts these bytes under the name. This does not count as a call and takes no room and no
     /// slot, and a name that was held keeps its counts. Where memory runs out, the shelf is as
     /// before.
@@ -132,6 +151,14 @@ impl MemShelf {
         ensures { self.new ≡ short_reads most self.old }
     {
         self.most = most;
+    }
+
+    /// How many calls of `read_at`, `create` and `append` there have been, those that failed
+    /// included. The count stays at `u64::MAX` once it has reached it.
+    pub fn calls(&self) -> u64
+        ensures { result ≡ self.now.calls }
+    {
+        self.calls
     }
 
     /// How many bytes reads of the name have returned so far, 0 where it is not held. The count

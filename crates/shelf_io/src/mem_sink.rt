@@ -62,6 +62,14 @@ impl MemSink {
         Ok(())
     }
 
+    /// How many calls of `put` there have been, those that failed included. The count stays at
+    /// `u64::MAX` once it has reached it.
+    pub fn calls(&self) -> u64
+        ensures { result ≡ self.now.calls }
+    {
+        self.calls
+    }
+
     /// The bytes taken so far.
     pub fn taken(&self) -> &[u8]
         ensures { result.now ≡ self.now.taken }

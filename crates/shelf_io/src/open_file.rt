@@ -83,4 +83,13 @@ impl OpenFile {
     pub(crate) fn write(&mut self, piece: &[u8]) -> io::Result<()> {
         self.file.write_all(piece)
     }
+
+    // Waits until the system has stored what was written. A file that cannot be synced, such as a
+    // pipe, has nothing to wait for.
+    pub(crate) fn sync(&mut self) -> io::Result<()> {
+        match self.file.sync_data() {
+            Err(error) if error.kind() == io::ErrorKind::InvalidInput => Ok(()),
+            done => done,
+        }
+    }
 }

@@ -25,7 +25,8 @@ use std::rt::Files;
 /// continues in it, where that offset is above 0 and the name has at most 255 bytes. So under such
 /// a name a file that another program replaces meanwhile is read whole, either the old one or the
 /// new one, and a pipe can be read. A read at offset 0 opens the name anew. The file that is
-/// created or appended to stays open, too.
+/// created or appended to stays open, too. An append of no bytes waits until the system has stored
+/// what was written before, so that an error which it reports only then is a failure of that call.
 #[derive(Drop)]
 pub struct RealShelf<R> {
     rt: R,
@@ -80,7 +81,8 @@ fn create<R: Files<File = File>>(
     Ok(())
 }
 
-// Writes at the end of the file, in the open file where that has this name.
+// Writes at the end of the file, in the open file where that has this name. Where there is nothing
+// to write it syncs the file.
 fn append<R: Files<File = File>>(
     rt: &R,
     writing: &mut Option<OpenFile>,
@@ -91,7 +93,11 @@ fn append<R: Files<File = File>>(
         Some(file) if file.is_called(name) => file,
         _ => OpenFile::to_append(rt, name)?,
     };
-    file.write(piece)?;
+    if piece.is_empty() {
+        file.sync()?;
+    } else {
+        file.write(piece)?;
+    }
     *writing = Some(file);
     Ok(())
 }

@@ -12,12 +12,12 @@ use Rattle.indexmap.specs.IndexMap.{insert_entry}
 use Rattle.spectral_tables.specs.Curve.{IsCurve}
 use Rattle.spectral_tables.specs.CurveBook.{Book, IsBook, book_of, wave_count}
 use Rattle.spectral_tables.specs.CurveFile.{column_of, curves_under}
-use Rattle.spectral_tables.specs.Rows.{IsRow}
+use Rattle.spectral_tables.specs.Rule.{Rule, IsRow}
 use Rattle.spectral_tables.proofs.NameFacts.{differs_from_earlier}
 
 -- each row of the list satisfies its invariant
-pub row-at : (columns : ℕ) (rows : List (Vec ℕ)) → All (IsRow columns) (map (λ row. row.items) rows) → (k : ℕ) (d : Vec ℕ) → k < length rows → IsRow columns (get_or rows k d).items
-row-at columns rows h k d lt = subst (IsRow columns) (get_or-map (λ (row : Vec ℕ). row.items) rows k d [] lt) (h k [] (rw length-map lt))
+pub row-at : (rule : Rule) (names : List (List ℕ)) (rows : List (Vec ℕ)) → All (IsRow rule names) (map (λ row. row.items) rows) → (k : ℕ) (d : Vec ℕ) → k < length rows → IsRow rule names (get_or rows k d).items
+row-at rule names rows h k d lt = subst (IsRow rule names) (get_or-map (λ (row : Vec ℕ). row.items) rows k d [] lt) (h k [] (rw length-map lt))
 
 pub column_of-rows : (column : ℕ) (rows : List (Vec ℕ)) → column_of column (map (λ row. row.items) rows) ≡ map (λ row. slice_index row.items column) rows
 column_of-rows column [] = refl
@@ -56,6 +56,10 @@ same_count : (n : ℕ) (book : Book) → All (λ e. length e.1 ≡ n) book → A
 same_count n [] h = λ k d lt. absurd (omega arith)
 same_count n (e ∷ es) h = λ k d lt. h k d lt ∙ sym (h 0 e (omega arith))
 
+first_count : (n : ℕ) (book : Book) → 1 ≤ length book → All (λ e. length e.1 ≡ n) book → wave_count book ≡ n
+first_count n [] some h = absurd (omega arith)
+first_count n (e ∷ es) some h = h 0 e (omega arith)
+
 pub holds-book : (rows names : List (List ℕ)) (i : ℕ) (book : Book) → 1 ≤ length names → length names ≤ i → IsDistinct bytes_eq names → Holds rows names i book → IsBook book
 holds-book rows names i book nonempty le distinct h =
     record {
@@ -64,6 +68,12 @@ holds-book rows names i book nonempty le distinct h =
       curves = h.curves;
       equal = same_count (length rows) book h.equal;
     }
+
+-- the curves have a place for each row
+pub holds-waves : (rows names : List (List ℕ)) (i : ℕ) (book : Book) → 1 ≤ length names → length names ≤ i → Holds rows names i book → wave_count book ≡ length rows
+holds-waves rows names i book nonempty le h =
+    let all = sym (length-keys_of book) ∙ ap length (h.names_are ∙ take_all i names le) in
+    first_count (length rows) book (omega (arith, all, nonempty)) h.equal
 
 -- a name that the book does not have yet is inserted at its end
 insert-last : (entries : List (Vec ℕ × List ℕ)) (name : Vec ℕ) (curve : List ℕ) → list_any (bytes_eq name.items) (keys_of (book_of entries)) ≡ false

@@ -6,7 +6,7 @@ use Rattle.std.specs.Cmp.Lexicographic.{nat_list_eq_equiv}
 use Rattle.std.proofs.lemmas.Map.Keys.{IsDistinct-push}
 use Rattle.spectral_tables.specs.declared.fault.TableRule.TheVariants.{DoubleName}
 use Rattle.spectral_tables.specs.Faults.{◌>>=◌, ◌>>◌, ensure, each}
-use Rattle.spectral_tables.specs.CurveFile.{next_different}
+use Rattle.spectral_tables.specs.Columns.{next_different}
 
 -- a test of references is that of the values that they refer to
 pub list_any_now : (name : List ℕ) (names : List (Bor (List ℕ))) → list_any (λ n. bytes_eq name n.now) names ≡ list_any (bytes_eq name) (map (λ n. n.now) names)

@@ -3,10 +3,12 @@ pub mod Records
 pub mod Faults
 pub mod Numbers
 pub mod Name
+pub mod Grid
+pub mod Rule
+pub mod Columns
 pub mod Curve
 pub mod CurveBook
 pub mod CurveFile
-pub mod Rows
 pub mod WeightTable
 pub mod Fold
 pub mod Run

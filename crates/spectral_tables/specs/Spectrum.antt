@@ -3,7 +3,7 @@ use Rattle.std.specs.Prelude.{ℕ, pos, ◌^◌, List, All, length, map}
 use Rattle.interval_specs.specs.Ends.{Ends}
 use Rattle.interval_specs.specs.Operations.{ratio_at}
 use Rattle.interval_specs.specs.Ranges.{UpTo}
-use Rattle.spectral_tables.specs.Curve.{IsWaveCount}
+use Rattle.spectral_tables.specs.Grid.{IsWaveCount}
 
 -- the invariant of a spectrum: no reflectance is below 0 or above 1
 pub record IsSpectrum (n : ℕ) (intervals : List Ends) : Type 0 where

@@ -3,6 +3,7 @@ use Rattle.std.specs.Prelude.{◌+◌, ◌*◌, ◌^◌, ℕ, ℤ, pos, ◌<ℤ�
 use Rattle.dec_text.specs.Decimal.{decimal_of}
 use Rattle.spectral_tables.specs.declared.fault.TableRule.TheVariants.{NoHeader, BadWavelength, WrongCount, BadNumber, OutOfRange, NoWhite, WhiteNotPositive, Unbalanced}
 use Rattle.spectral_tables.specs.declared.fault.TableFault.{TableFault}
+use Rattle.spectral_tables.specs.declared.grid.WaveGrid.{WaveGrid}
 use Rattle.spectral_tables.specs.Faults.{◌>>=◌, ◌>>◌, fault, ensure, or_fault, each}
 use Rattle.spectral_tables.specs.Records.{Table, records_of, trimmed_fields, begins_with, first_field}
 use Rattle.spectral_tables.specs.Numbers.{number_read}
@@ -33,7 +34,7 @@ with_row rows fields = do
   triple ← each (next_weight false (following_row rows)) [] (drop 1 fields)
   Ok (rows_with rows nm triple)
 
--- the values of the white record, which may only follow rows that reach 700 nm
+-- the values of the white record, which may only follow rows that reach the grid's last wavelength
 unfoldable pub white_of : Rows → List (List ℕ) → Result Triple TableFault
 white_of rows fields =
     ensure (following_row rows) 1 BadWavelength (reaches_end rows)
@@ -49,7 +50,7 @@ unfoldable pub closed_of : Rows → Triple → Table → Result WeightTable Tabl
 closed_of rows white records =
     ensure_balance rows white 0 >> ensure_balance rows white 1 >> ensure_balance rows white 2
     >> ensure (following_row rows + 1) 1 BadWavelength (length records == 0)
-    >> Ok (record { weights = fold_of rows.first rows.triples; white = white })
+    >> Ok (record { weights = fold_of rows.grid rows.first rows.triples; white = white })
 
 -- the weights from the records that follow the rows, up to the white record
 unfoldable pub weights_from : Rows → Table → Result WeightTable TableFault
@@ -61,11 +62,11 @@ weights_from rows (line ∷ records) =
     else with_row rows (trimmed_fields line) >>= (λ more. weights_from more records))
 
 -- the weights of a table, or its first fault. The header is `nm` and three fields with any text
-unfoldable pub weights_of : Table → Result WeightTable TableFault
-weights_of [] = Err (fault 1 1 NoHeader)
-weights_of (header ∷ records) =
-    ensure 1 1 NoHeader (begins_with (codes "nm") (trimmed_fields header) && (length header == 4)) >> weights_from no_rows records
+unfoldable pub weights_of : WaveGrid → Table → Result WeightTable TableFault
+weights_of grid [] = Err (fault 1 1 NoHeader)
+weights_of grid (header ∷ records) =
+    ensure 1 1 NoHeader (begins_with (codes "nm") (trimmed_fields header) && (length header == 4)) >> weights_from (no_rows grid) records
 
 -- the weights of a file, or its first fault
-abbrev pub weight_table_of : List ℕ → Result WeightTable TableFault
-weight_table_of bytes = weights_of (records_of bytes)
+abbrev pub weight_table_of : WaveGrid → List ℕ → Result WeightTable TableFault
+weight_table_of grid bytes = weights_of grid (records_of bytes)

@@ -1,7 +1,7 @@
 -- Weights for the tristimulus values X, Y and Z (ASTM E308): three numbers for each wavelength, and
 -- three for white.
 use Rattle.std.specs.Prelude.{◌≡◌, ◌*◌, ◌<◌, ◌≤◌, ◌^◌, ℕ, ℤ, pos, ◌+ℤ◌, ◌<ℤ◌, List, [], ◌∷◌, All, length, slice_index_or, sum_by, unsigned_abs}
-use Rattle.spectral_tables.specs.Curve.{IsWaveCount}
+use Rattle.spectral_tables.specs.Grid.{IsWaveCount}
 
 -- the numbers for X, Y and Z, in units of 0.00001
 abbrev pub Triple : Type 0

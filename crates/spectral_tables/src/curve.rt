@@ -3,20 +3,18 @@
 ghost use Rattle.std.specs.Prelude.{◌≡◌, ◌<◌, length, slice_index};
 ghost use Rattle.spectral_tables.specs.Curve.{IsCurve, IsReflectance};
 
+use crate::grid::MOST_WAVES;
 use arrayvec::ArrayVec;
 use std::alloc::AllocError;
 use std::marker::Model;
 
-/// How many wavelengths a curve has: those from 400 to 700 nm in steps of 10 nm.
-pub(crate) const WAVES: usize = 31;
-
-/// The 31 reflectances of one cloth in millionths, by rising wavelength: from 400 to 700 nm in
-/// steps of 10 nm.
+/// The reflectances of one cloth in millionths, by rising wavelength: one for each wavelength of a
+/// grid.
 ///
 /// A `wave` is the index of a wavelength.
 #[derive(Debug, Drop)]
 pub struct Curve {
-    millionths: ArrayVec<u32, WAVES>,
+    millionths: ArrayVec<u32, MOST_WAVES>,
 }
 
 impl Model for Curve {
@@ -90,6 +88,6 @@ impl Default for Curve {
     ghost is_default = { λ c. c ≡ full_curve };
 
     fn default() -> Curve {
-        Curve::of(&[1_000_000; WAVES])
+        Curve::of(&[1_000_000; MOST_WAVES])
     }
 }

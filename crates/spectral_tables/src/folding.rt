@@ -1,10 +1,10 @@
-//! Adding the weights outside 400 to 700 nm to those at the nearer end.
+//! Adding the weights outside a grid to those at its nearer end.
 
 ghost use Rattle.std.specs.Prelude.{◌≡◌, ◌*◌, ◌≤◌, ◌<◌, ◌^◌, length, All, unsigned_abs};
 ghost use Rattle.spectral_tables.specs.WeightTable.{IsTriple, column_sum, total_of};
 ghost use Rattle.spectral_tables.specs.Fold.{Covers, fold_of};
 
-use crate::curve::WAVES;
+use crate::grid::{MOST_WAVES, WaveGrid};
 use arrayvec::ArrayVec;
 
 /// The sum of a column.
@@ -33,23 +33,24 @@ fn total(triples: &[[i64; 3]]) -> [i64; 3]
     ]
 }
 
-/// The weights from 400 to 700 nm in steps of 10 nm, from weights that begin at `first` with the
-/// same steps: those below 400 nm are added to that at 400 nm, and those above 700 nm to that at
-/// 700 nm.
-#[tactic(auto, unfolding(crate::specs::Fold::fold_of))]
-pub fn fold(first: u16, triples: &[[i64; 3]]) -> [[i64; 3]; 31]
-    requires run { Covers first (length triples.now) }
+/// The weights of a grid, from weights that begin at the wavelength `first` and have the steps of
+/// the grid: those below its first wavelength are added to the weight there, and those above its
+/// last one to the weight there.
+#[tactic(auto, unfolding(crate::specs::Fold::fold_of), using(crate::proofs::GridFacts::splits))]
+pub fn fold(grid: WaveGrid, first: u16, triples: &[[i64; 3]]) -> ArrayVec<[i64; 3], MOST_WAVES>
+    requires run { Covers grid first (length triples.now) }
     requires magnitudes { All IsTriple triples.now }
-    ensures { result ≡ fold_of first triples.now }
+    ensures { result.items ≡ fold_of grid first triples.now }
 {
-    let below = (400 - first as usize) / 10;
+    let waves = grid.waves();
+    let below = usize::from((waves.first - first) / waves.step);
     let (low, rest) = triples.split_at(below + 1);
-    let (middle, high) = rest.split_at(WAVES - 2);
-    let mut folded: ArrayVec<[i64; 3], WAVES> = ArrayVec::new();
+    let (middle, high) = rest.split_at(waves.count - 2);
+    let mut folded = ArrayVec::new();
     folded.push(total(low));
     for triple in middle {
         folded.push(*triple);
     }
     folded.push(total(high));
-    folded.into_inner().unwrap()
+    folded
 }

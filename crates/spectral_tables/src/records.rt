@@ -9,6 +9,9 @@ use crate::trim::trimmed;
 use csv::{ByteRecord, ErrorKind, ReaderBuilder};
 use std::alloc::{AllocError, Global};
 
+/// How many bytes a curve file, a weights file or another file of columns may have.
+pub const TABLE_LIMIT: u64 = 1_000_000;
+
 #[tactic(auto, unfolding(csv::specs::Reading::strip_bom))]
 fn without_mark(bytes: &[u8]) -> &[u8]
     ensures { result.now ≡ strip_bom bytes.now }

@@ -5,16 +5,17 @@ ghost use Rattle.interval_specs.specs.Operations.{ratio_at};
 ghost use Rattle.interval_specs.specs.Ranges.{UpTo};
 ghost use Rattle.spectral_tables.specs.Spectrum.{IsSpectrum, ends_of, spectrum_at};
 
-use crate::curve::{Curve, WAVES};
+use crate::curve::Curve;
+use crate::grid::MOST_WAVES;
 use arrayvec::ArrayVec;
 use fix_bounds::{Iv, Scale};
 use std::marker::{Model, PhantomData};
 
-/// A reflectance for each wavelength from 400 to 700 nm in steps of 10 nm, as an interval within 0
-/// to 1 at the scale `S`. A `wave` is the index of a wavelength.
+/// A reflectance for each wavelength of a grid, as an interval within 0 to 1 at the scale `S`. A
+/// `wave` is the index of a wavelength.
 #[derive(Drop)]
 pub struct Spectrum<S: Scale> {
-    ends: ArrayVec<(u64, u64), WAVES>,
+    ends: ArrayVec<(u64, u64), MOST_WAVES>,
     scale: PhantomData<S>,
 }
 

@@ -42,7 +42,8 @@ fn triple(is_white: bool, row: u32, fields: &[&[u8]]) -> Result<[i64; 3], TableF
 #[tactic(auto, unfolding(crate::specs::WeightFile::with_row))]
 pub(crate) fn with_row(run: Run, fields: &[&[u8]]) -> Result<Run, TableError>
     requires { length fields.now ≡ 4 }
-    ensures { Gives (λ r. r) result (with_row run (map (λ f. f.now) fields.now)) }
+    ensures is { Gives (λ r. r) result (with_row run (map (λ f. f.now) fields.now)) }
+    ensures grid { IfOk result (λ r. r.grid ≡ run.grid) }
 {
     let row = run.following_row();
     let start = Cell { row, column: 1 };

@@ -3,16 +3,16 @@
 ghost use Rattle.std.specs.Prelude.{◌≡◌, ◌<◌, [], length, slice_index_or};
 ghost use Rattle.spectral_tables.specs.WeightTable.{IsWeightTable};
 
-use crate::curve::WAVES;
+use crate::grid::MOST_WAVES;
+use arrayvec::ArrayVec;
 use std::alloc::AllocError;
 use std::marker::Model;
 
 /// The weights of a light and observer for X, Y and Z, in units of 0.00001: three for each
-/// wavelength from 400 to 700 nm in steps of 10 nm, and the values of white. A `wave` is the index
-/// of a wavelength.
+/// wavelength of a grid, and the values of white. A `wave` is the index of a wavelength.
 #[derive(Debug, Drop)]
 pub struct Weights {
-    pub(crate) weights: [[i64; 3]; WAVES],
+    pub(crate) weights: ArrayVec<[i64; 3], MOST_WAVES>,
     pub(crate) white: [i64; 3],
 }
 
@@ -21,9 +21,9 @@ impl Model for Weights {
 
     ghost Value = { WeightTable };
 
-    ghost view = { λ w. record { weights = w.weights; white = w.white } };
+    ghost view = { λ w. record { weights = w.weights.items; white = w.white } };
 
-    ghost invariant = { λ w. IsWeightTable (record { weights = w.weights; white = w.white }) };
+    ghost invariant = { λ w. IsWeightTable (record { weights = w.weights.items; white = w.white }) };
 }
 
 impl Weights {
@@ -41,7 +41,7 @@ impl Weights {
         ensures is { result ≡ length self.now.weights }
         ensures held { IsWeightTable self.now }
     {
-        self.weights.as_slice().len()
+        self.weights.len()
     }
 
     /// The values of white, each above 0 and at least half the sum of the magnitudes of its column.
@@ -61,8 +61,12 @@ impl Clone for Weights {
     ghost is_infallible = { λ _. ⊤ };
 
     fn clone(&self) -> Result<Weights, AllocError> {
+        let mut weights = ArrayVec::new();
+        for triple in self.weights.as_slice() {
+            weights.push(*triple);
+        }
         Ok(Weights {
-            weights: self.weights,
+            weights,
             white: self.white,
         })
     }

@@ -3,13 +3,13 @@
 ghost use Rattle.std.specs.Prelude.{◌≡◌, ◌≤◌, All, IfSome, length, vec_len};
 ghost use Rattle.box_specs.specs.Span.{IsBox, IsInside};
 ghost use Rattle.recipe_judge.specs.Recipes.{recipe_land};
-ghost use Rattle.spectral_tables.specs.WeightTable.{IsWeightTable};
+ghost use Rattle.spectral_tables.specs.declared.records.TheConstants.{TABLE_LIMIT};
 
 use box_core::{BoxR, Evals, Judged, Landscape, split};
 use box_search::search;
 use job_file::{BatchRule, JobLight, Resolved, read_job, resolve};
 use recipe_judge::RecipeLand;
-use spectral_tables::{Weights, read_curves, read_weights};
+use spectral_tables::{TABLE_LIMIT, WaveGrid, Weights, read_curves, read_weights};
 use std::rt::{Clock, Files};
 use std::time::Instant;
 use std::{fs, io};
@@ -42,27 +42,33 @@ impl Kinds {
     }
 }
 
-/// A file of at most a million bytes.
+/// A file of at most [`TABLE_LIMIT`] bytes.
 fn short_file<R: Files + AllocGlobal>(rt: &R, name: &str) -> Option<Vec<u8>>
-    ensures { IfSome result (λ bytes. vec_len bytes ≤ 1000000) }
+    ensures { IfSome result (λ bytes. vec_len bytes ≤ TABLE_LIMIT) }
 {
     let bytes = fs::read(rt, name).ok()?;
-    if bytes.len() > 1_000_000 {
+    if bytes.len() as u64 > TABLE_LIMIT {
         return None;
     }
     Some(bytes)
 }
 
-/// The weights of lights.
-fn weights_of<R: Files + AllocGlobal>(rt: &R, lights: &[JobLight]) -> Option<Vec<Weights>>
+/// The weights of lights, each for this many wavelengths.
+fn weights_of<R: Files + AllocGlobal>(
+    rt: &R,
+    lights: &[JobLight],
+    waves: usize,
+) -> Option<Vec<Weights>>
     ensures count { IfSome result (λ w. length w.items ≡ length lights.now) }
-    ensures held { IfSome result (λ w. All IsWeightTable w.items) }
+    ensures waves { IfSome result (λ w. All (λ t. length t.weights ≡ waves) w.items) }
 {
     let mut list = Vec::new(rt.alloc());
     for light in lights {
         let text = short_file(rt, light.weights.as_str())?;
-        let weights = read_weights(rt.alloc(), text.as_slice()).ok()?;
-        let _ = weights.waves(); // called only for its contract: the invariant of weights
+        let weights = read_weights(rt.alloc(), text.as_slice(), WaveGrid::Ten).ok()?;
+        if weights.waves() != waves {
+            return None;
+        }
         list.push(weights).ok()?;
     }
     Some(list)
@@ -74,9 +80,9 @@ fn resolved_from<R: Files + AllocGlobal>(rt: &R, name: &str) -> Option<Resolved>
     let text = short_file(rt, name)?;
     let job = read_job(alloc, text.as_slice(), BatchRule::Either).ok()?;
     let text = short_file(rt, job.curves.as_str())?;
-    let book = read_curves(alloc, text.as_slice()).ok()?;
-    let weights = weights_of(rt, job.light.as_slice())?;
-    let _ = book.find(""); // called only for its contract: the invariant of a book
+    let book = read_curves(alloc, text.as_slice(), WaveGrid::Ten).ok()?;
+    let waves = book.find(job.substrate.as_str())?.waves();
+    let weights = weights_of(rt, job.light.as_slice(), waves)?;
     resolve(alloc, job, &book, weights).ok()
 }
 

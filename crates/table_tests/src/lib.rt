@@ -3,9 +3,13 @@
 #![tactic(auto)]
 
 #[cfg(test)]
+mod columns;
+#[cfg(test)]
 mod decimals;
 #[cfg(test)]
 mod files;
+#[cfg(test)]
+mod four_lights;
 #[cfg(test)]
 mod lights;
 #[cfg(test)]

@@ -1,7 +1,8 @@
-use crate::files::{table, weights};
+use crate::files::{table, table_from, weights, weights_on};
 use fix_bounds::Base;
 use spectral_tables::{
-    Curve, CurveBook, Spectrum, TableError, TableFault, TableRule, is_name, read_curves,
+    Curve, CurveBook, Spectrum, TABLE_LIMIT, TableError, TableFault, TableRule, WaveGrid, is_name,
+    read_curves,
 };
 use std::alloc::Global;
 use std::test::Fail;
@@ -17,11 +18,15 @@ fn fault_of<T: Drop>(read: Result<T, TableError>) -> Option<TableFault> {
     }
 }
 
-fn curves(alloc: Global, text: &str) -> Result<CurveBook, TableError> {
-    if text.len() > 1_000_000 {
+fn curves_on(alloc: Global, text: &str, grid: WaveGrid) -> Result<CurveBook, TableError> {
+    if text.len() as u64 > TABLE_LIMIT {
         return Err(TableError::Memory);
     }
-    read_curves(alloc, text.as_bytes())
+    read_curves(alloc, text.as_bytes(), grid)
+}
+
+fn curves(alloc: Global, text: &str) -> Result<CurveBook, TableError> {
+    curves_on(alloc, text, WaveGrid::Ten)
 }
 
 #[test]
@@ -171,8 +176,8 @@ fn dressed_curves(rt: HostRuntime) -> Result<(), Fail> {
 #[test]
 fn full_spectrum(rt: HostRuntime) {
     let spectrum: Spectrum<Base> = Curve::default().spectrum();
-    assert_eq!(rt; spectrum.waves(), 31);
-    assert_eq!(rt; spectrum.at(30).lo(), 1_000_000_000_000);
+    assert_eq!(rt; spectrum.waves(), 40);
+    assert_eq!(rt; spectrum.at(39).lo(), 1_000_000_000_000);
     assert!(rt; is_name(b"d1 c1") && !is_name(b""));
 }
 
@@ -192,5 +197,52 @@ fn folded_weights(rt: HostRuntime) -> Result<(), Fail> {
         (copy.at(0), copy.white()),
         (weights.at(0), weights.white())
     );
+    Ok(())
+}
+
+#[test]
+fn curves_on_each_grid(rt: HostRuntime) -> Result<(), Fail> {
+    let cases = [
+        (WaveGrid::Ten, (400, 10), 31, None),
+        (WaveGrid::Twenty, (400, 20), 16, None),
+        (WaveGrid::Wide, (360, 10), 40, None),
+        (WaveGrid::Twenty, (400, 20), 15, Some(17)),
+        (WaveGrid::Twenty, (400, 10), 31, Some(3)),
+        (WaveGrid::Wide, (400, 10), 31, Some(2)),
+        (WaveGrid::Wide, (360, 10), 41, Some(42)),
+    ];
+    for (grid, waves, lines, bad_row) in cases {
+        let text = table_from(rt.alloc(), [HEADER, VALUES, VALUES, ""], waves, lines)?;
+        let read = curves_on(rt.alloc(), text.as_str(), grid);
+        let fault = bad_row.map(|row| TableFault {
+            row,
+            column: 1,
+            rule: TableRule::BadWavelength,
+        });
+        assert_eq!(rt; fault_of(read), fault, "{lines} lines");
+    }
+    Ok(())
+}
+
+#[test]
+fn weights_on_each_grid(rt: HostRuntime) -> Result<(), Fail> {
+    let cases = [
+        (WaveGrid::Ten, (400, 10), 31, "white,31,31,31", None),
+        (WaveGrid::Twenty, (400, 20), 16, "white,16,16,16", None),
+        (WaveGrid::Wide, (360, 10), 40, "white,40,40,40", None),
+        (WaveGrid::Twenty, (400, 10), 31, "white,31,31,31", Some(3)),
+        (WaveGrid::Wide, (400, 10), 31, "white,31,31,31", Some(2)),
+    ];
+    for (grid, waves, lines, white, bad_row) in cases {
+        let parts = ["nm,X,Y,Z", "1,1,1", "1,1,1", white];
+        let text = table_from(rt.alloc(), parts, waves, lines)?;
+        let read = weights_on(rt.alloc(), text.as_str(), grid);
+        let fault = bad_row.map(|row| TableFault {
+            row,
+            column: 1,
+            rule: TableRule::BadWavelength,
+        });
+        assert_eq!(rt; fault_of(read), fault, "{white}");
+    }
     Ok(())
 }

@@ -3,20 +3,17 @@ use Rattle.std.proofs.Common.{◌≡◌, ◌+◌, ◌*◌, ◌<◌, ◌≤ℤ◌
 use Rattle.std.specs.Prelude.{unsigned_abs}
 use Rattle.std.proofs.lemmas.Int.{ints, clamps}
 use Rattle.std.proofs.lemmas.List.Sums.{sum_by-cons}
-use Rattle.interval_specs.specs.Ends.{Ends}
+use Rattle.interval_specs.specs.Ends.{Ends, nothing}
 use Rattle.interval_specs.specs.Encloses.{Encloses}
 use Rattle.interval_specs.specs.Operations.{sum_of, multiple_of, cut_low_at}
 use Rattle.interval_specs.specs.Ranges.{MagnitudeUpTo, UpTo}
 use Rattle.interval_specs.proofs.Ranges.{sum_magnitude, multiple_magnitude, magnitude_of_up_to}
-use Rattle.interval_specs.proofs.Laws.{sum_encloses, multiple_encloses, fraction_encloses, cut_low_encloses}
+use Rattle.interval_specs.proofs.Laws.{nothing_encloses, sum_encloses, multiple_encloses, fraction_encloses, cut_low_encloses}
 use Rattle.spectral_tables.specs.WeightTable.{Triple, WeightTable, IsWeightTable, at_column, magnitude_sum}
-use Rattle.tristimulus.specs.Ratios.{nothing, weighted_sum, ratio_at_column, ratios_at}
+use Rattle.tristimulus.specs.Ratios.{weighted_sum, ratio_at_column, ratios_at}
 use Rattle.spectral_tables.specs.Laws.{EnclosesWaves}
 use Rattle.tristimulus.specs.Laws.{RatiosEnclose, RatiosInRange}
 use Rattle.tristimulus.proofs.Sums.{nothing-magnitude, magnitude-positive, white-range}
-
-nothing_encloses : (m : ℕ) → Encloses m nothing nothing
-nothing_encloses m = record { low = omega (arith, ints); high = omega (arith, ints); ordered = omega (arith, ints) }
 
 sums_enclose : (m column : ℕ) (triples : List Triple) (spectrum finer : List Ends) → EnclosesWaves m spectrum finer → Encloses m (weighted_sum column triples spectrum) (weighted_sum column triples finer)
 unfolding weighted_sum

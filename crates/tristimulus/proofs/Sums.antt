@@ -1,5 +1,5 @@
 -- A weighted sum, wavelength by wavelength, and its magnitude.
-use Rattle.std.proofs.Common.{◌≡◌, ◌+◌, ◌*◌, ◌≤◌, ◌<◌, ◌^◌, ℕ, suc, ℤ, pos, negsuc, ◌+ℤ◌, ◌<ℤ◌, List, [], ◌∷◌, length, get_or, take, drop, Some, refl, sym, ap, subst, ◌∙◌, add-one, arith}
+use Rattle.std.proofs.Common.{◌≡◌, ◌+◌, ◌*◌, ◌≤◌, ◌<◌, ◌^◌, ℕ, suc, ℤ, pos, negsuc, ◌<ℤ◌, List, [], ◌∷◌, length, get_or, take, drop, Some, refl, sym, ap, subst, ◌∙◌, add-one, arith}
 use Rattle.std.specs.Prelude.{unsigned_abs, sum_by, slice_get}
 use Rattle.std.proofs.lemmas.Int.{ints}
 use Rattle.std.proofs.lemmas.List.{take_more, take-append-drop, drop_all}
@@ -7,33 +7,13 @@ use Rattle.std.proofs.lemmas.List.Sums.{sum_by-append, sum_by-cons}
 use Rattle.std.proofs.lemmas.Option.{get_or_from_slice_get}
 use Rattle.std.proofs.Math.Seq.{drop-cons}
 use Rattle.std.proofs.Math.Nat.{mul-le-mul}
-use Rattle.interval_specs.specs.Ends.{Ends, magnitude_of}
+use Rattle.interval_specs.specs.Ends.{Ends, magnitude_of, nothing}
 use Rattle.interval_specs.specs.Operations.{sum_of, multiple_of, fraction_of, cut_low_at}
 use Rattle.interval_specs.specs.Ranges.{MagnitudeUpTo, UpTo}
+use Rattle.interval_specs.proofs.Additions.{sum-regroup, sum-nothing}
 use Rattle.interval_specs.proofs.Ranges.{sum_magnitude, multiple_magnitude, magnitude_of_up_to, fraction_magnitude, cut_low_up_to, up_to_wider}
 use Rattle.spectral_tables.specs.WeightTable.{Triple, WeightTable, IsWeightTable, at_column, magnitude_sum}
-use Rattle.tristimulus.specs.Ratios.{nothing, weighted_sum}
-
-sum-regroup : (a b c : Ends) → sum_of (sum_of a b) c ≡ sum_of a (sum_of b c)
-unfolding sum_of
-sum-regroup a b c =
-    let lo : ((a.lo +ℤ b.lo) +ℤ c.lo) ≡ (a.lo +ℤ (b.lo +ℤ c.lo)) = omega (arith, ints) in
-    let hi : ((a.hi +ℤ b.hi) +ℤ c.hi) ≡ (a.hi +ℤ (b.hi +ℤ c.hi)) = omega (arith, ints) in
-    λ i. record { lo = lo i; hi = hi i }
-
-pub sum-nothing : (a : Ends) → sum_of a nothing ≡ a
-unfolding sum_of
-sum-nothing a =
-    let lo : (a.lo +ℤ pos 0) ≡ a.lo = omega (arith, ints) in
-    let hi : (a.hi +ℤ pos 0) ≡ a.hi = omega (arith, ints) in
-    λ i. record { lo = lo i; hi = hi i }
-
-pub nothing-sum : (a : Ends) → sum_of nothing a ≡ a
-unfolding sum_of
-nothing-sum a =
-    let lo : (pos 0 +ℤ a.lo) ≡ a.lo = omega (arith, ints) in
-    let hi : (pos 0 +ℤ a.hi) ≡ a.hi = omega (arith, ints) in
-    λ i. record { lo = lo i; hi = hi i }
+use Rattle.tristimulus.specs.Ratios.{weighted_sum}
 
 pub nothing-magnitude : (k : ℕ) → MagnitudeUpTo k nothing
 nothing-magnitude k = record { ordered = omega (arith, ints); small = omega (arith, ints) }

@@ -1,13 +1,9 @@
 -- Tristimulus ratios (ASTM E308): sums of weights times reflectances, each over the value of white.
 use Rattle.std.specs.Prelude.{ℕ, pos, List, [], ◌∷◌, unsigned_abs}
-use Rattle.interval_specs.specs.Ends.{Ends}
+use Rattle.interval_specs.specs.Ends.{Ends, nothing}
 use Rattle.fix_bounds.specs.Ratios.{RatioEnds}
 use Rattle.interval_specs.specs.Operations.{sum_of, multiple_of, fraction_of, cut_low_at}
 use Rattle.spectral_tables.specs.WeightTable.{Triple, WeightTable, at_column}
-
--- an interval of no width at 0
-abbrev pub nothing : Ends
-nothing = record { lo = pos 0; hi = pos 0 }
 
 -- The sum of a column's weights, each times the reflectance at its wavelength. For a weight below
 -- 0, the lower end of the product comes from the upper end of the reflectance.

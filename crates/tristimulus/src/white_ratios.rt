@@ -4,7 +4,7 @@ ghost use Rattle.std.specs.Prelude.{◌≡◌, ◌*◌, ◌<◌, ◌≤◌, [], 
 ghost use Rattle.interval_specs.specs.Ranges.{MagnitudeUpTo, UpTo};
 ghost use Rattle.spectral_tables.specs.WeightTable.{HasItemEachWave, IsWeightTable, at_column, magnitude_sum};
 ghost use Rattle.fix_bounds.specs.Ratios.{ratio_ends};
-ghost use Rattle.tristimulus.specs.Ratios.{nothing, weighted_sum, ratio_at_column, ratios_at};
+ghost use Rattle.tristimulus.specs.Ratios.{weighted_sum, ratio_at_column, ratios_at};
 
 use fix_bounds::{Iv, Ratios, Scale};
 use spectral_tables::{Spectrum, Weights};

@@ -6,6 +6,7 @@ ghost use Rattle.recipe_judge.specs.Recipes.{recipe_land};
 ghost use Rattle.dye_run.specs.Check.{cert_from, check_report, check_rule, valid_from};
 ghost use Rattle.dye_run.specs.Jobs.{asks_cert};
 ghost use Rattle.dye_run.specs.Judging.{Gives};
+ghost use Rattle.box_cert.specs.declared.read.TheConstants.{CERT_LIMIT};
 
 use crate::cert_files::{WithCert, read_with_cert};
 use crate::cert_words::CertWords;
@@ -31,13 +32,13 @@ pub(crate) struct Check<'a>(pub CertWords<'a>);
 pub(crate) struct CertInput {
     land: RecipeLand,
     text: Vec<u8>,
-    ghost short: { length text.items ≤ 64000000 },
+    ghost short: { length text.items ≤ CERT_LIMIT },
 }
 
 /// The certificate that a text spells.
 #[tactic(auto, unfolding(crate::specs::Check::cert_from))]
 fn cert_from<'a>(alloc: Global, land: &RecipeLand, text: &[u8]) -> Result<Cert, Stop<'a>>
-    requires { length text.now ≤ 64000000 }
+    requires { length text.now ≤ CERT_LIMIT }
     ensures { Gives content result
         (cert_from (length (recipe_land land.now).top.lo) text.now) }
 {

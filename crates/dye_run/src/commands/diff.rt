@@ -3,7 +3,8 @@
 
 ghost use Rattle.std.specs.Prelude.{◌≡◌, ◌≤◌, codes, IfOk, map, option_map, string_bytes};
 ghost use Rattle.std.specs.Option.{ForSome};
-ghost use Rattle.dye_run.specs.Answers.{Evaluation, base_unit};
+ghost use Rattle.dye_run.specs.Answers.{Evaluation};
+ghost use Rattle.fix_bounds.specs.Scales.{base_unit};
 ghost use Rattle.dye_run.specs.Commands.{asking_of};
 ghost use Rattle.dye_run.specs.Diff.{diff_report, diff_with, diff_words, difference_report, tolerance_of, verdict_name};
 ghost use Rattle.dye_run.specs.Forms as form;

@@ -1,6 +1,8 @@
 //! `ks`: the K/S of one column.
 
 ghost use Rattle.std.specs.Prelude.{◌≡◌, IfOk, map, option_map, string_bytes};
+ghost use Rattle.spectral_tables.specs.Grid.{first_of};
+ghost use Rattle.spectral_tables.specs.declared.grid.WaveGrid.TheVariants.{Ten};
 ghost use Rattle.dye_run.specs.Answers.{lines_of};
 ghost use Rattle.dye_run.specs.Commands.{asking_of};
 ghost use Rattle.dye_run.specs.Forms as form;
@@ -16,14 +18,8 @@ use crate::tables::curve_from;
 use crate::words::names_file;
 use fix_bounds::Base;
 use shelf_io::Shelf;
-use spectral_tables::{Curve, CurveBook};
+use spectral_tables::{Curve, CurveBook, WaveGrid};
 use std::alloc::{AllocError, Global};
-
-/// The first wavelength of a curve, in nanometres.
-const FIRST_WAVELENGTH: usize = 400;
-
-/// The step from one wavelength to the next, in nanometres.
-const WAVELENGTH_STEP: usize = 10;
 
 /// The words CURVES COLUMN.
 #[derive(Clone, Copy)]
@@ -67,11 +63,12 @@ impl<'a> Inquiry<'a> for Ks<'a> {
 
 // A line for each wavelength of the curve, with its K/S at the base scale.
 fn ks_text(alloc: Global, curve: &Curve) -> Result<Vec<u8>, AllocError>
-    ensures { IfOk result (λ text. text.items ≡ lines_of (ks_evaluations 400 curve.now)) }
+    ensures { IfOk result (λ text. text.items ≡ lines_of (ks_evaluations (first_of Ten) curve.now)) }
 {
+    let waves = WaveGrid::Ten.waves();
     let mut text = Vec::new(alloc);
     for wave in 0..curve.waves() {
-        let wavelength = FIRST_WAVELENGTH + WAVELENGTH_STEP * wave;
+        let wavelength = usize::from(waves.first) + usize::from(waves.step) * wave;
         let label = format!(in alloc; "{wavelength}")?;
         push_line(
             &mut text,

@@ -1,7 +1,7 @@
 -- What follows from enclosing alone.
 use Rattle.std.proofs.Common.{ℕ, ℤ, pos, ◌*◌, ◌<◌, ◌*ℤ◌, ◌≤ℤ◌, arith}
 use Rattle.std.proofs.lemmas.Int.{ints}
-use Rattle.interval_specs.specs.Ends.{Ends, IsOrdered, one_at}
+use Rattle.interval_specs.specs.Ends.{Ends, IsOrdered, nothing, one_at}
 use Rattle.interval_specs.specs.Encloses.{Encloses}
 use Rattle.interval_specs.proofs.Order.{parts, by_parts, to_parts, mono_left, cancel_left, trans_ℤ, refl_ℤ}
 
@@ -48,3 +48,7 @@ low_not_negative m a b h p = trans_ℤ (pos 0) (pos m *ℤ a.lo) b.lo (times_not
   where
     times_not_negative : (m : ℕ) (z : ℤ) → pos 0 ≤ℤ z → pos 0 ≤ℤ (pos m *ℤ z)
     times_not_negative m z q = let k = simp parts at (to_parts (pos m *ℤ pos 0) (pos m *ℤ z) (mono_left m (pos 0) z q)) in by_parts (pos 0) (pos m *ℤ z) (simp parts (omega arith))
+
+-- the number zero encloses itself at each scale
+pub nothing_encloses : (m : ℕ) → Encloses m nothing nothing
+nothing_encloses m = record { low = omega (arith, ints); high = omega (arith, ints); ordered = omega (arith, ints) }

@@ -29,10 +29,7 @@ pub(crate) fn answer(
     words: &[&str],
     files: &[(&str, &[u8])],
 ) -> Result<String, Fail> {
-    let mut shelf = MemShelf::empty(alloc, 0, 0)?;
-    for (name, bytes) in files {
-        shelf.put_file(name, bytes)?;
-    }
+    let mut shelf = MemShelf::holding(alloc, 0, 0, files)?;
     let mut out = MemSink::empty(alloc, 100_000)?;
     call(rt, alloc, words, &mut shelf, &mut out)
 }

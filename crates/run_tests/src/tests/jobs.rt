@@ -140,6 +140,15 @@ fn names_limits(rt: HostRuntime) -> Result<(), Fail> {
     Ok(())
 }
 
+/// What is shown of one step of V, which passes under both lights.
+pub(crate) const BOTH_PASS: &str = "dye U steps 0 percent 0.000 grams 0.00\n\
+    dye V steps 1 percent 0.010 grams 0.10\n\
+    cost 30\n\
+    light 1 DE 0.000000000000..0.000003316625 pass\n\
+    light 2 DE 0.000000000000..0.000003316625 pass\n";
+
+// One step of U leaves the wavelengths of the second light undyed. Another program calculated the
+// difference there, in whole numbers by the formulas that docs/rules.md states.
 #[test]
 fn judges_under_two_lights(rt: HostRuntime) -> Result<(), Fail> {
     let alloc = rt.alloc();
@@ -150,11 +159,18 @@ fn judges_under_two_lights(rt: HostRuntime) -> Result<(), Fail> {
         ("w2.csv", two.second.as_bytes()),
         ("c.toml", two.job.as_bytes()),
     ];
-    for (word, want) in [("1,0", ("8", "fail")), ("0,1", ("0", "pass"))] {
-        let got = answer(&rt, alloc, &["show", "c.toml", word], &files)?;
-        assert_eq!(rt; end_of(got.as_str()), want, "{word}");
-    }
-    Ok(())
+    let fails = "8 dye U steps 1 percent 0.010 grams 0.10\n\
+        dye V steps 0 percent 0.000 grams 0.00\n\
+        cost 10\n\
+        light 1 DE 0.000000000000..0.000003316625 pass\n\
+        light 2 DE 5.957657146425..5.957657146534 fail\n\
+        fail\n";
+    let passes = format!(in alloc; "0 {BOTH_PASS}pass\n")?;
+    let rows = [
+        ("show c.toml 1,0", fails),
+        ("show c.toml 0,1", passes.as_str()),
+    ];
+    assert_answers(&rt, alloc, &files, &rows)
 }
 
 #[test]

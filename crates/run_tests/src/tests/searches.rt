@@ -2,7 +2,7 @@
 
 use super::calls::{answer, assert_answers, call};
 use super::files::{even_light, flat};
-use super::jobs::{LIGHT, TOP, job, two_lights};
+use super::jobs::{BOTH_PASS, LIGHT, TOP, job, two_lights};
 use shelf_io::{MemShelf, MemSink};
 use std::alloc::{AllocError, Global};
 use std::process::Abort;
@@ -21,15 +21,6 @@ pub(crate) fn solo(
     )
 }
 
-/// A shelf that holds these files, with room for one more.
-fn shelf_of(alloc: Global, files: &[(&str, &[u8])]) -> Result<MemShelf, Fail> {
-    let mut shelf = MemShelf::empty(alloc, 10_000, 1)?;
-    for (name, bytes) in files {
-        shelf.put_file(name, bytes)?;
-    }
-    Ok(shelf)
-}
-
 /// Asserts the answer of a search and the certificate that it writes, and that `check` accepts it.
 fn assert_finds(
     rt: &impl Abort,
@@ -39,7 +30,7 @@ fn assert_finds(
     want: &str,
     cert: &str,
 ) -> Result<(), Fail> {
-    let mut shelf = shelf_of(alloc, files)?;
+    let mut shelf = MemShelf::holding(alloc, 10_000, 1, files)?;
     let mut out = MemSink::empty(alloc, 10_000)?;
     let got = call(rt, alloc, words, &mut shelf, &mut out)?;
     assert_eq!(rt; got.as_str(), want);
@@ -56,13 +47,13 @@ fn assert_finds(
     Ok(())
 }
 
-const R: &str = "name = \"R\"\nprice = 3\nstep = 10\nmost = 4\n\
+pub(crate) const R: &str = "name = \"R\"\nprice = 3\nstep = 10\nmost = 4\n\
     [[dye.dyeing]]\nunits = 1000\ncurve = \"p30\"\n";
 
-const UNDYED: &str = "0 match\nboxes 2\ndye R steps 0 percent 0.000 grams 0.00\ncost 0\n\
+pub(crate) const UNDYED: &str = "0 match\nboxes 2\ndye R steps 0 percent 0.000 grams 0.00\ncost 0\n\
     light 1 DE 0.000000000000..0.000003316625 pass\nundecided 0\n";
 
-const UNDYED_CERT: &str = "dye-cert 1\nmatch 0\nundecided 0\ns 1 0\np\nd\n";
+pub(crate) const UNDYED_CERT: &str = "dye-cert 1\nmatch 0\nundecided 0\ns 1 0\np\nd\n";
 
 const MATCH: &str = "dye U steps 0 percent 0.000 grams 0.00\n\
     dye V steps 1 percent 0.010 grams 0.10\ncost 30\n\
@@ -187,30 +178,52 @@ fn searches_two_dyes(rt: HostRuntime) -> Result<(), Fail> {
     assert_answers(&rt, alloc, &files, &rows)
 }
 
-// The cheaper dye fails under the second light.
+// The cheaper dye passes under the first light and fails under the second.
 #[test]
 fn searches_under_two_lights(rt: HostRuntime) -> Result<(), Fail> {
     let alloc = rt.alloc();
     let two = two_lights(alloc)?;
-    let mut shelf = shelf_of(
+    let files = [
+        ("two.csv", two.curves.as_bytes()),
+        ("w1.csv", two.first.as_bytes()),
+        ("w2.csv", two.second.as_bytes()),
+        ("c.toml", two.job.as_bytes()),
+    ];
+    let want = format!(in alloc; "0 match\nboxes 6\n{BOTH_PASS}undecided 0\n")?;
+    assert_finds(
+        &rt,
         alloc,
-        &[
-            ("two.csv", two.curves.as_bytes()),
-            ("w1.csv", two.first.as_bytes()),
-            ("w2.csv", two.second.as_bytes()),
-            ("c.toml", two.job.as_bytes()),
-        ],
-    )?;
-    let mut out = MemSink::empty(alloc, 10_000)?;
-    let words = ["predict", "c.toml", "c.cert"];
-    let got = call(&rt, alloc, &words, &mut shelf, &mut out)?;
-    let want = "0 match\nboxes 6\ndye U steps 0 percent 0.000 grams 0.00\n\
-        dye V steps 1 percent 0.010 grams 0.10\ncost 30\nlight 1 DE ";
-    assert!(rt; got.as_str().starts_with(want));
-    assert!(rt; got.as_str().ends_with(" pass\nundecided 0\n"));
-    let cert = "dye-cert 1\nmatch 0 1\nundecided 0\ns 1 0\ns 2 0\nf 1\np\ns 2 0\nf 2\nd\n";
-    assert!(rt; shelf.file("c.cert") == Some(cert.as_bytes()));
-    Ok(())
+        &files,
+        &["predict", "c.toml", "c.cert"],
+        want.as_str(),
+        "dye-cert 1\nmatch 0 1\nundecided 0\ns 1 0\ns 2 0\nf 1\np\ns 2 0\nf 2\nd\n",
+    )
+}
+
+// The batch was measured as the standard, and so it needs no addition; a batch as the undyed cloth
+// needs a step of the second dye.
+#[test]
+fn corrects_from_the_measured_batch(rt: HostRuntime) -> Result<(), Fail> {
+    let alloc = rt.alloc();
+    let flat = flat(alloc)?;
+    let light = even_light(alloc)?;
+    let batch = "[batch]\ncurve = \"p30\"\nsteps = [1, 0]\n";
+    let g = job(alloc, TOP, LIGHT, ("1", "p30"), "3", batch)?;
+    let files = [
+        ("flat.csv", flat.as_bytes()),
+        ("w.csv", light.as_bytes()),
+        ("g.toml", g.as_bytes()),
+    ];
+    assert_finds(
+        &rt,
+        alloc,
+        &files,
+        &["correct", "g.toml", "g.cert"],
+        "0 match\nboxes 3\ndye U steps 0 percent 0.000 grams 0.00\n\
+         dye V steps 0 percent 0.000 grams 0.00\ncost 0\n\
+         light 1 DE 0.000000000000..0.000003316625 pass\nundecided 0\n",
+        "dye-cert 1\nmatch 0 0\nundecided 0\ns 1 0\ns 2 0\np\nd\nd\n",
+    )
 }
 
 // Certificates for the job with two equal dyes: the one that a search writes, and others with
@@ -264,7 +277,7 @@ fn predict_under_fault(
     want: &str,
     cert: Option<&str>,
 ) -> Result<(), Fail> {
-    let mut shelf = shelf_of(alloc, files)?;
+    let mut shelf = MemShelf::holding(alloc, 10_000, 1, files)?;
     shelf.fail_at(number)?;
     let mut out = MemSink::empty(alloc, 10_000)?;
     let words = ["predict", "a.toml", "a.cert"];
@@ -274,7 +287,8 @@ fn predict_under_fault(
     Ok(())
 }
 
-// Each file takes two reads; then the certificate is created, and its text appended.
+// Each file takes two reads; then the certificate is created, its text appended, and no bytes after
+// it, at which real files are stored.
 #[test]
 fn predicts_under_faults(rt: HostRuntime) -> Result<(), Fail> {
     let alloc = rt.alloc();
@@ -294,7 +308,8 @@ fn predicts_under_faults(rt: HostRuntime) -> Result<(), Fail> {
         (7, "4 not written a.cert\n", None),
         // a failed append takes half of its piece
         (8, "4 not written a.cert\n", Some("dye-cert 1\nmatch 0\nu")),
-        (9, UNDYED, Some(UNDYED_CERT)),
+        (9, "4 not written a.cert\n", Some(UNDYED_CERT)),
+        (10, UNDYED, Some(UNDYED_CERT)),
     ] {
         predict_under_fault(&rt, alloc, &files, number, want, cert)?;
     }

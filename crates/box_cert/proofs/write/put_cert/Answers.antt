@@ -105,5 +105,5 @@ returns g c =
     let v3 = g.H.Shelf.view c.put_lines.new.shelf in
     let w3 = c.put_lines.new.waiting.items in
     let P : List CertLine → Type 0 = λ xs. GoesOn name (lines_text xs) w2 v2 w3 v3 in
-    all_put name H R L old w1 v1 first w2 v2 second c.flush.result w3 v3 (g.H.Shelf.view c.flush.new.shelf)
-    (subst P c.as_slice-2.ensures c.in-Ok-put_lines.ensures.goes) c.flush.ensures.goes
+    all_put name H R L old w1 v1 first w2 v2 second c.finish.result w3 v3 (g.H.Shelf.view c.finish.new.shelf)
+    (subst P c.as_slice-2.ensures c.in-Ok-put_lines.ensures.goes) c.finish.ensures

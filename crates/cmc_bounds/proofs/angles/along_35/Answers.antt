@@ -4,7 +4,7 @@ use Rattle.interval_specs.proofs.Ranges.{carry_magnitude}
 use Rattle.cmc_specs.specs.Cmc.{along_35, cos35, sin35}
 use Rattle.cmc_specs.proofs.Ranges.{bracket_up_to, projection_difference_magnitude}
 use Rattle.cmc_bounds.proofs.AngleCalls.{parts_room}
-use Rattle.cmc_bounds.proofs.Calls.{some_units}
+use Rattle.lab_parts.proofs.Rooms.{some_units}
 use Rattle.cmc_bounds.proofs.angles.along_35.Goals as goal
 
 pub sub-requires : goal.sub-requires

@@ -4,7 +4,7 @@ use Rattle.interval_specs.proofs.Ranges.{carry_up_to}
 use Rattle.fix_bounds.proofs.Passed.{read}
 use Rattle.cmc_specs.specs.Cmc.{chroma_denominator, chroma_gain, chroma_numerator}
 use Rattle.cmc_specs.proofs.Ranges.{chroma_gain_up_to}
-use Rattle.cmc_bounds.proofs.Calls.{held_up_to, some_units, up_to_magnitude}
+use Rattle.lab_parts.proofs.Rooms.{held_up_to, some_units, up_to_magnitude}
 use Rattle.cmc_bounds.proofs.Outward.{ends_same, high_end_small, low_end_small}
 use Rattle.cmc_bounds.proofs.chroma.chroma_gain.Goals as goal
 

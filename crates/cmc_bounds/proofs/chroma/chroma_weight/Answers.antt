@@ -4,7 +4,8 @@ use Rattle.interval_specs.proofs.Ranges.{carry_up_to}
 use Rattle.interval_specs.specs.Ranges.{AtLeast}
 use Rattle.cmc_specs.specs.Cmc.{chroma_weight}
 use Rattle.cmc_specs.proofs.Ranges.{chroma_weight_at_least, chroma_weight_up_to}
-use Rattle.cmc_bounds.proofs.Calls.{some_units, weight_room}
+use Rattle.lab_parts.proofs.Rooms.{some_units}
+use Rattle.cmc_bounds.proofs.Calls.{weight_room}
 use Rattle.cmc_bounds.proofs.chroma.chroma_weight.Goals as goal
 
 pub add-requires : goal.add-requires

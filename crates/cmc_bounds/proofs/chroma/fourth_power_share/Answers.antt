@@ -4,7 +4,8 @@ use Rattle.interval_specs.proofs.Ranges.{carry_up_to}
 use Rattle.fix_bounds.proofs.Passed.{read}
 use Rattle.cmc_specs.specs.Cmc.{fourth_power_share}
 use Rattle.cmc_specs.proofs.Ranges.{share_up_to}
-use Rattle.cmc_bounds.proofs.Calls.{held_unit, some_units, up_to_magnitude}
+use Rattle.lab_parts.proofs.Rooms.{some_units, up_to_magnitude}
+use Rattle.cmc_bounds.proofs.Calls.{held_unit}
 use Rattle.cmc_bounds.proofs.Outward.{ends_same, high_end_small, low_end_small}
 use Rattle.cmc_bounds.proofs.chroma.fourth_power_share.Goals as goal
 

@@ -3,7 +3,8 @@ use Rattle.interval_specs.specs.Roots.{sqrt_at}
 use Rattle.interval_specs.proofs.Ranges.{carry_up_to}
 use Rattle.cmc_specs.specs.Cmc.{fourth_power_share, hue_share}
 use Rattle.cmc_specs.proofs.Ranges.{hue_share_up_to}
-use Rattle.cmc_bounds.proofs.Calls.{fourth_power, some_units, square_room, up_to_magnitude}
+use Rattle.lab_parts.proofs.Rooms.{some_units, square_room, up_to_magnitude}
+use Rattle.cmc_bounds.proofs.Calls.{fourth_power}
 use Rattle.cmc_bounds.proofs.chroma.hue_share.Goals as goal
 
 pub square-requires : goal.square-requires

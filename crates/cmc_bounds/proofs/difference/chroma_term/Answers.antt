@@ -2,7 +2,8 @@ use Rattle.std.proofs.Common.{◌*◌, ◌∙◌, lit<, lit≤, le_trans}
 use Rattle.interval_specs.specs.Operations.{quotient_at}
 use Rattle.interval_specs.proofs.Ranges.{carry_magnitude}
 use Rattle.cmc_specs.proofs.Ranges.{chroma_term_magnitude}
-use Rattle.cmc_bounds.proofs.Calls.{above_0, chroma_divisor, far_from_0, quotient_room, tenths_room, up_to_magnitude}
+use Rattle.lab_parts.proofs.Rooms.{above_0, far_from_0, quotient_room, up_to_magnitude}
+use Rattle.cmc_bounds.proofs.Calls.{chroma_divisor, tenths_room}
 use Rattle.cmc_bounds.proofs.difference.chroma_term.Goals as goal
 
 pub ratio_up-requires-clause-room : goal.ratio_up-requires-clause-room

@@ -1,5 +1,6 @@
 use Rattle.std.proofs.Common.{lit≤}
-use Rattle.cmc_bounds.proofs.Calls.{hue_divisor, square_room, up_to_magnitude}
+use Rattle.lab_parts.proofs.Rooms.{square_room, up_to_magnitude}
+use Rattle.cmc_bounds.proofs.Calls.{hue_divisor}
 use Rattle.cmc_bounds.proofs.difference.hue_divisor.Goals as goal
 
 pub square-requires : goal.square-requires

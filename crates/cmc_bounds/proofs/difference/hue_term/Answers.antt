@@ -2,7 +2,7 @@ use Rattle.std.proofs.Common.{◌*◌, ◌^◌, ◌∙◌, lit<, lit≤}
 use Rattle.interval_specs.specs.Operations.{quotient_at}
 use Rattle.interval_specs.proofs.Ranges.{carry_up_to}
 use Rattle.cmc_specs.proofs.Ranges.{hue_term_up_to}
-use Rattle.cmc_bounds.proofs.Calls.{above_0, far_from_0, quotient_room, up_to_magnitude}
+use Rattle.lab_parts.proofs.Rooms.{above_0, far_from_0, quotient_room, up_to_magnitude}
 use Rattle.cmc_bounds.proofs.difference.hue_term.Goals as goal
 
 pub div-requires-clause-positive : goal.div-requires-clause-positive

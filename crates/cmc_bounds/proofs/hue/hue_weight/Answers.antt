@@ -3,7 +3,8 @@ use Rattle.interval_specs.proofs.Ranges.{carry_up_to}
 use Rattle.interval_specs.specs.Ranges.{AtLeast}
 use Rattle.cmc_specs.specs.Cmc.{hue_weight}
 use Rattle.cmc_specs.proofs.Ranges.{hue_weight_at_least, hue_weight_up_to}
-use Rattle.cmc_bounds.proofs.Calls.{product_room, unit_magnitude, units_product, some_units, up_to_magnitude}
+use Rattle.lab_parts.proofs.Rooms.{product_room, unit_magnitude, some_units, up_to_magnitude}
+use Rattle.cmc_bounds.proofs.Calls.{units_product}
 use Rattle.cmc_bounds.proofs.HueCalls.{weight_is}
 use Rattle.cmc_bounds.proofs.hue.hue_weight.Goals as goal
 

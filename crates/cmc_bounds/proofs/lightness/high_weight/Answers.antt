@@ -5,7 +5,8 @@ use Rattle.interval_specs.proofs.Ranges.{carry_up_to}
 use Rattle.fix_bounds.proofs.Passed.{read}
 use Rattle.cmc_specs.specs.Cmc.{high_weight, lightness_denominator, lightness_numerator}
 use Rattle.cmc_specs.proofs.Ranges.{high_weight_up_to}
-use Rattle.cmc_bounds.proofs.Calls.{held_up_to, raised_magnitude, some_units}
+use Rattle.lab_parts.proofs.Rooms.{held_up_to, some_units}
+use Rattle.cmc_bounds.proofs.Calls.{raised_magnitude}
 use Rattle.cmc_bounds.proofs.Outward.{ends_same, high_end_small, low_end_small}
 use Rattle.cmc_bounds.proofs.lightness.high_weight.Goals as goal
 

@@ -3,7 +3,7 @@ use Rattle.interval_specs.proofs.Ranges.{carry_up_to}
 use Rattle.interval_specs.specs.Ranges.{AtLeast}
 use Rattle.cmc_specs.specs.Cmc.{high_weight, is_dark, is_light, lightness_weight, low_weight}
 use Rattle.cmc_specs.proofs.Ranges.{lightness_weight_at_least, lightness_weight_up_to}
-use Rattle.cmc_bounds.proofs.Calls.{some_units}
+use Rattle.lab_parts.proofs.Rooms.{some_units}
 use Rattle.cmc_bounds.proofs.Chosen.{both_chosen, first_chosen, second_chosen}
 use Rattle.cmc_bounds.proofs.lightness.lightness_weight.Goals as goal
 

@@ -4,7 +4,13 @@ use Rattle.demo_jobs.specs.CurveText.{book_of, curve_text, job_book}
 use Rattle.demo_jobs.specs.Dyes.{drawn_dyes}
 use Rattle.demo_jobs.specs.JobTable.{job_table}
 use Rattle.demo_jobs.proofs.Accepted.{texts_accepted}
+use Rattle.demo_jobs.proofs.JobBookRead.{entries_ten}
 use Rattle.demo_jobs.proofs.demo.make.Goals as goal
+
+pub curve_text-requires : goal.curve_text-requires
+curve_text-requires c =
+    let book = c.in_ok-book.ensures ∙ ap job_book (c.as_slice.ensures.value ∙ c.draws-draws.ensures.is) in
+    rw c.deref.ensures.value (entries_ten c.in_ok-book.book.items _ book)
 
 pub returns-clause-accepted : goal.returns-clause-accepted
 returns-clause-accepted c =

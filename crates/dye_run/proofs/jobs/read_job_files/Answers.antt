@@ -1,21 +1,21 @@
 use Rattle.std.proofs.Common.{ℕ, List, Option, map, ap, subst, rules}
 use Rattle.job_file.specs.JobView.{job_view}
 use Rattle.dye_run.specs.Asking.{Asking}
-use Rattle.dye_run.specs.Inputs.{table_limit}
 use Rattle.dye_run.specs.Jobs.{asks_each, light_files}
 use Rattle.dye_run.specs.Judging.{StopsHaving}
 use Rattle.dye_run.specs.Asking.{asks}
 use Rattle.dye_run.specs.Views.{bytes_view}
 use Rattle.dye_run.proofs.Onwards.{rest_goes_on, rest_stops, stops_first}
 use Rattle.dye_run.proofs.jobs.read_job_files.Goals as goal
+use Rattle.spectral_tables.specs.declared.records.TheConstants.{TABLE_LIMIT}
 
 pub returns-in_err-curves-clause-stopped : goal.returns-in_err-curves-clause-stopped
 returns-in_err-curves-clause-stopped g c = λ next.
     let rest : Option (List ℕ) → Asking = λ bytes_read. asks_each (light_files (job_view c.args.job.now)) (next bytes_read) in
     let before = g.H.Shelf.view c.args.shelf.now in
     let after = g.H.Shelf.view c.due.new.shelf in
-    let stopped = subst (λ n. StopsHaving (asks n table_limit rest) before after c.in_err-curves.field-0.0) c.as_str.ensures
-    (stops_first c.as_str.result.now table_limit rest before after c.in_err-curves.field-0.0 c.in_err-curves.ensures.effect c.in_err-curves.ensures.handed c.in_err-curves.ensures.stopped) in
+    let stopped = subst (λ n. StopsHaving (asks n TABLE_LIMIT rest) before after c.in_err-curves.field-0.0) c.as_str.ensures
+    (stops_first c.as_str.result.now TABLE_LIMIT rest before after c.in_err-curves.field-0.0 c.in_err-curves.ensures.effect c.in_err-curves.ensures.handed c.in_err-curves.ensures.stopped) in
     search rules
 
 pub returns-in_err-weights-clause-stopped : goal.returns-in_err-weights-clause-stopped

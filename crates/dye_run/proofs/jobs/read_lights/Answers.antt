@@ -7,6 +7,7 @@ use Rattle.dye_run.specs.declared.stop.Stop.TheVariants as stop
 use Rattle.dye_run.proofs.JobTables.{file_at, short_of}
 use Rattle.dye_run.proofs.Onwards.{files_after, files_all, files_more, files_stop}
 use Rattle.dye_run.proofs.jobs.read_lights.Goals as goal
+use Rattle.spectral_tables.specs.declared.records.TheConstants.{TABLE_LIMIT}
 
 pub returns-in_err-bytes-clause-stopped : goal.returns-in_err-bytes-clause-stopped
 returns-in_err-bytes-clause-stopped g c = λ next.
@@ -33,7 +34,7 @@ loop-light-preserved g c =
     record {
       so_far = λ next. files_more (asks_each names next) names c.loop-light.light-index (map bytes_view c.loop-light.bytes_read.items) next c.as_str.result.now (g.H.Shelf.view c.args.shelf.now) (g.H.Shelf.view c.loop-light.shelf) (g.H.Shelf.view c.due.new.shelf) (bytes_view c.in_ok-bytes.bytes) (map bytes_view c.push.new.self.items) below_end name grown c.in_ok-bytes.ensures.effect c.in_ok-bytes.ensures.handed c.in_ok-bytes.ensures.from_files (c.loop-light.invariant.so_far next);
       count = search rules;
-      short = rw c.in_ok-push.ensures.items (All-push (λ bytes_read. IfSome bytes_read (λ bytes. length bytes.items ≤ 1000000)) c.loop-light.bytes_read.items c.in_ok-bytes.bytes c.loop-light.invariant.short (short_of 1000000 c.in_ok-bytes.bytes c.in_ok-bytes.ensures.from_files.short));
+      short = rw c.in_ok-push.ensures.items (All-push (λ bytes_read. IfSome bytes_read (λ bytes. length bytes.items ≤ TABLE_LIMIT)) c.loop-light.bytes_read.items c.in_ok-bytes.bytes c.loop-light.invariant.short (short_of 1000000 c.in_ok-bytes.bytes c.in_ok-bytes.ensures.from_files.short));
     }
 
 pub returns-clause-bytes_read : goal.returns-clause-bytes_read

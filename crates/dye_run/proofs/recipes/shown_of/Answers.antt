@@ -1,7 +1,7 @@
 use Rattle.std.proofs.Common.{length, sym, ap, ◌∙◌}
 use Rattle.recipe_judge.specs.Evaluation.{spectrum_of}
 use Rattle.spectral_tables.specs.Spectrum.{spectrum_at}
-use Rattle.dye_run.specs.Answers.{base_unit}
+use Rattle.fix_bounds.specs.Scales.{base_unit}
 use Rattle.dye_run.proofs.ShowFacts.{length-differences}
 use Rattle.dye_run.proofs.recipes.shown_of.Goals as goal
 

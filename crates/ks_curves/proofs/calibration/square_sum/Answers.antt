@@ -1,12 +1,9 @@
-use Rattle.std.proofs.Common.{◌≡◌, ◌*◌, subst, arith}
-use Rattle.std.proofs.lemmas.List.Elements.{All-more}
-use Rattle.spectral_tables.specs.Curve.{IsCurve}
-use Rattle.ks_curves.specs.Dye.{Dyeing}
+use Rattle.std.proofs.Common.{◌≡◌, ◌*◌, arith}
 use Rattle.ks_curves.proofs.Sums.{square_sum-more, square_small, no_squares}
 use Rattle.ks_curves.proofs.calibration.square_sum.Goals as goal
 
 pub loop-units-init : goal.loop-units-init
-loop-units-init c = record { so_far = no_squares; small = omega arith; curves = λ k d h. absurd (omega arith) }
+loop-units-init c = record { so_far = no_squares; small = omega arith }
 
 pub loop-units-preserved : goal.loop-units-preserved
 loop-units-preserved c =
@@ -14,9 +11,7 @@ loop-units-preserved c =
     let square : c.from.result * c.from-in-loop-units.result ≡ d.0 * d.0 = λ i. c.from.ensures i * c.from-in-loop-units.ensures i in
     let more = square_sum-more c.args.dyeings.now c.loop-units.units-index d c.loop-units-test.true c.loop-units-item.is in
     let small = square_small c.args.dyeings.now c.loop-units.units-index d c.requires.units c.loop-units-test.true c.loop-units-item.is in
-    let curve : IsCurve d.1 = c.waves.ensures.held in
     record {
       so_far = omega (arith, square, more, c.loop-units.invariant.so_far);
       small = omega (arith, square, small, c.loop-units.invariant.small);
-      curves = All-more (λ (x : Dyeing). IsCurve x.1) c.args.dyeings.now c.loop-units.units-index d c.loop-units-test.true c.loop-units.invariant.curves (subst (λ (x : Dyeing). IsCurve x.1) c.loop-units-item.is curve);
     }

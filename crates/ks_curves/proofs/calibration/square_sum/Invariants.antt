@@ -1,5 +1,4 @@
-use Rattle.std.proofs.Common.{◌≡◌, ◌*◌, ◌≤◌, ◌^◌, take, All}
-use Rattle.spectral_tables.specs.Curve.{IsCurve}
+use Rattle.std.proofs.Common.{◌≡◌, ◌*◌, ◌≤◌, ◌^◌, take}
 use Rattle.ks_curves.specs.Calibration.{square_sum}
 use Rattle.ks_curves.proofs.calibration.square_sum.Given as goal
 
@@ -7,5 +6,4 @@ abbrev pub invariant-loop-units : goal.invariant-loop-units
 invariant-loop-units l = record {
   so_far : l.sum ≡ square_sum (take l.units-index l.dyeings);
   small : l.sum ≤ 4 * 10 ^ 8 * l.units-index;
-  curves : All (λ d. IsCurve d.1) (take l.units-index l.dyeings);
 }

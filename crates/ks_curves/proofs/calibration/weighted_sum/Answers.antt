@@ -2,7 +2,7 @@ use Rattle.std.proofs.Common.{◌≡◌, ◌*◌, ◌^◌, length, arith}
 use Rattle.interval_specs.specs.Ends.{nothing}
 use Rattle.ks_curves.specs.Calibration.{weighted_sum}
 use Rattle.ks_curves.proofs.Sums.{Step, step, sum-more, sum-end, nothing-magnitude}
-use Rattle.ks_curves.proofs.Additions.{nothing-sum}
+use Rattle.interval_specs.proofs.Additions.{nothing-sum}
 use Rattle.ks_curves.proofs.calibration.weighted_sum.Given as given
 use Rattle.ks_curves.proofs.calibration.weighted_sum.Goals as goal
 use Rattle.ks_curves.proofs.calibration.weighted_sum.Goals.{After-weighted_addition}

@@ -21,7 +21,7 @@ loop-i-preserved g c =
     let delta = c.index-as_slice-i.result in
     let same : get_or deltas i delta ≡ delta = ap (λ (ds : List Ends). get_or ds i delta) (sym c.as_slice.ensures.value) ∙ sym c.index-as_slice-i.is in
     let found : slice_get deltas i ≡ Some delta = slice_get-get_or deltas i delta ltd ∙ ap Some same in
-    let judged : c.joint-so_far.result ≡ joint c.loop-i.so_far (light_verdict n c.at.result.now.tolerance (i + 1) delta) = c.joint-so_far.ensures ∙ ap (joint c.loop-i.so_far) c.judge_at.ensures in
+    let judged : c.joint-so_far.result ≡ joint c.loop-i.so_far (light_verdict n c.at.result.now.tolerance (i + 1) delta) = c.joint-so_far.ensures ∙ ap (joint c.loop-i.so_far) c.judge_at.ensures.is in
     rw judged (verdict_more n i c.loop-i.so_far tolerances deltas c.at.result.now.tolerance delta _ (rw length-map lt) read ltd found c.loop-i.invariant)
 
 pub returns : goal.returns

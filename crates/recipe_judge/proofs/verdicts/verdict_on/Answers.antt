@@ -4,6 +4,7 @@ use Rattle.std.proofs.lemmas.List.{length-map}
 use Rattle.metamerism.specs.Lights.{delta_under, deltas_under, lights_of, tolerances_of}
 use Rattle.metamerism.specs.Verdicts.{joint, verdict_at, verdict_from}
 use Rattle.recipe_judge.proofs.LightTurns.{fail_decides, read_map, undecided_stays, verdict_over, verdict_turn}
+use Rattle.metamerism.proofs.PlaceFacts.{fits_at}
 use Rattle.recipe_judge.proofs.verdicts.verdict_on.Goals as goal
 use Rattle.recipe_judge.proofs.verdicts.verdict_on.Goals.{After-verdict_under, in-Pass, in-Undecided}
 
@@ -24,6 +25,16 @@ here c =
     let d = read_map (λ light. delta_under light sample) lights i light found in
     let turn = verdict_turn (10 ^ 12) i ts ds light.tolerance (delta_under light sample) (rw length-map lt) t (rw length-map lt) d in
     rw c.verdict_under.ensures.is (ap (joint c.loop-i.so_far) (sym turn) ∙ c.loop-i.invariant.rest)
+
+pub verdict_under-requires : goal.verdict_under-requires
+verdict_under-requires c =
+    let i = c.loop-i.i in
+    let lights = lights_of c.args.lights.now in
+    let light = c.get.result.now in
+    let lt : i < length lights = omega (arith, c.loop-i-test.true, c.count-i-end.ensures.is) in
+    let index : i + 1 - 1 ≡ i = omega arith in
+    let found : slice_get lights i ≡ Some light = subst (λ k. slice_get lights k ≡ Some light) index c.get.ensures in
+    fits_at lights i light c.args.sample.now lt found c.args.lights.now.equal c.requires
 
 pub returns-in-Fail : goal.returns-in-Fail
 returns-in-Fail c =

@@ -1,10 +1,12 @@
 use Rattle.std.proofs.Common.{◌≡◌, ◌*◌, ◌<◌, ℤ, [], length, ap, ◌∙◌, SFits, rules, arith}
 use Rattle.std.specs.Int.{w64}
 use Rattle.std.proofs.lemmas.Int.{to_z-of_z}
+use Rattle.interval_specs.specs.Ends.{nothing}
+use Rattle.interval_specs.proofs.Additions.{nothing-sum}
 use Rattle.interval_specs.specs.Operations.{sum_of, multiple_of}
 use Rattle.spectral_tables.specs.WeightTable.{magnitude_sum}
-use Rattle.tristimulus.specs.Ratios.{nothing, weighted_sum}
-use Rattle.tristimulus.proofs.Sums.{step-kept, sum-more, sum-end, nothing-sum, nothing-magnitude}
+use Rattle.tristimulus.specs.Ratios.{weighted_sum}
+use Rattle.tristimulus.proofs.Sums.{step-kept, sum-more, sum-end, nothing-magnitude}
 use Rattle.tristimulus.proofs.white_ratios.weighted_sum.Goals as goal
 
 pub loop-wave-init : goal.loop-wave-init

@@ -12,7 +12,7 @@ mix-requires c =
     let low = c.args.low.now.items in
     let high = c.args.high.now.items in
     let recipe : IsRecipe r.grid high = subst (λ (v : ResolvedJob). IsRecipe v.grid high) (sym c.self.view_is) c.requires.recipe in
-    rw (c.self.invariant.base_is, c.as_slice-dyes.ensures, c.as_slice.ensures.value, c.as_slice-2.ensures.value)
+    rw (c.self.invariant.base_is, c.as_slice-dyes.ensures, c.as_slice-bath.ensures.value, c.as_slice.ensures.value, c.as_slice-2.ensures.value)
     (can_mix r low high c.self.invariant.is_land.found c.self.invariant.is_land.grid c.requires.ordered recipe)
 
 pub returns-clause-is : goal.returns-clause-is
@@ -20,5 +20,5 @@ returns-clause-is c =
     let r = resolved_view c.self.inside.resolved in
     let low = c.args.low.now.items in
     let high = c.args.high.now.items in
-    let sample : c.mix.result ≡ spectrum_of (10 ^ 12) r low high = rw (c.mix.ensures.is, c.self.invariant.base_is, c.as_slice-dyes.ensures, c.as_slice.ensures.value, c.as_slice-2.ensures.value) in
+    let sample : c.mix.result ≡ spectrum_of (10 ^ 12) r low high = rw (c.mix.ensures.is, c.self.invariant.base_is, c.as_slice-dyes.ensures, c.as_slice-bath.ensures.value, c.as_slice.ensures.value, c.as_slice-2.ensures.value) in
     sample ∙ ap (λ (v : ResolvedJob). spectrum_of (10 ^ 12) v low high) c.self.view_is

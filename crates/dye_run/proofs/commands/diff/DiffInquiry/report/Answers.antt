@@ -7,4 +7,4 @@ pub returns : goal.returns
 unfolding diff_report
 returns c =
     let e = difference_evaluation (diff_view c.args.self) c.args.tables.now.weights c.in_ok-standard.standard.now c.in_ok-sample.sample.now in
-    (difference_report (tolerance_view c.args.self.tolerance) e, rw (c.in_ok-standard.ensures, c.in_ok-sample.ensures), c.in_ok-report.ensures e (sym c.difference-found.ensures.is) refl)
+    (difference_report (tolerance_view c.args.self.tolerance) e, rw (c.in_ok-standard.ensures.is, c.in_ok-sample.ensures.is), c.in_ok-report.ensures e (sym c.difference-found.ensures.is) refl)

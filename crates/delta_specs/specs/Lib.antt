@@ -1,0 +1,3 @@
+pub mod Cie94
+pub mod DeltaFormula
+pub mod Laws

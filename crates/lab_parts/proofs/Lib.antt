@@ -1,0 +1,4 @@
+pub mod Law
+pub mod Ranges
+pub mod Rooms
+mod Terms
