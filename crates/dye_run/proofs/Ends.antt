@@ -11,12 +11,12 @@ use Rattle.shade_report.specs.declared.refusal.Refusal.{Refusal}
 use Rattle.shade_report.specs.declared.refusal.Refusal.TheVariants as why
 use Rattle.dye_run.specs.Answers.{Report}
 use Rattle.dye_run.specs.Asking.{Answers, Asking, IsDue, MayTake, ReadsDue}
-use Rattle.dye_run.specs.Commands.{asking_for}
+use Rattle.dye_run.specs.Commands.{asking_for, written_by}
 use Rattle.dye_run.specs.Delivery.{Delivers, IsWritten, Prints}
 use Rattle.dye_run.specs.Delivery as delivery
-use Rattle.dye_run.specs.Endings.{Changes, ChangesFiles, Ended, FailsToWrite, IsPut, IsSearchable, IsSearched, Reaches, World, not_written_status, with_written, world}
+use Rattle.dye_run.specs.Endings.{ArePromised, Changes, ChangesFiles, Ended, FailsToWrite, IsPut, IsSearchable, IsSearched, Reaches, World, not_written_status, with_written, world}
 use Rattle.dye_run.specs.Endings as ended
-use Rattle.dye_run.specs.Forms.{Form, written_by}
+use Rattle.dye_run.specs.Forms.{Form}
 use Rattle.dye_run.specs.Outcome.{Outcome, conclusion_status, not_written, refusal_outcome, reported, status_of, text_of, written_of}
 
 zero_more : (n : ℕ) → n ≡ n + 0
@@ -141,61 +141,48 @@ ended_report form before after mid r file text status result reached reads f t s
 
 -- ---- what a call changes
 
-pub writes_none : (name : List ℕ) (view : ShelfView) → OnlyWrites name 0 view view
-writes_none name view = record {
-  reads = λ n. refl;
-  handed = λ n. refl;
-  files = λ n other. refl;
-  grows = λ n. omega arith;
-  others = λ n other held. refl;
-  reads_kept = λ n h. h;
-  writes_kept = λ more h.
-      let zero_first : 0 + more ≡ more = omega arith in
-      let P : ℕ → Type 0 = λ k. IsTrue (view.writes_promised name k) in (subst P zero_first h, refl);
-}
-
-only_read : (names : List ℕ → Type 0) (by : Option (List ℕ)) (before after : ShelfView) → OnlyReads names before after → ChangesFiles names by before after
-only_read names None before after effect = effect
-only_read names (Some name) before after effect = (after, effect, (0, writes_none name after))
-
 put_grows : {text : List ℕ} {status result : ℕ} (before after : SinkView) → Prints text status before after result → before.faults ≤ after.faults
 put_grows before after (delivery.whole taken counted r) = omega (arith, counted)
 put_grows before after (delivery.cut taken counted r unpromised) = counted.0
 
+same_name : (name other : List ℕ) (by : Option (List ℕ)) → by ≡ Some other → by ≡ Some name → other ≡ name
+same_name name other by e f = cc
+
+-- no promised write failed
+unfailed_by : (form : Option Form) (before after : ShelfView) → ChangesFiles form before after → (name : List ℕ) → written_by form ≡ Some name → ArePromised form before name → after.write_faults name ≡ before.write_faults name
+unfailed_by form before after (ended.reads_alone effect) name own promise = effect.writes name
+unfailed_by form before after (ended.writes_too mid r other bytes effect w is by changed) name own promise =
+    let same : other ≡ name = same_name name other (written_by form) by own in
+    let promised : IsTrue (before.writes_promised name (length bytes)) = promise r bytes w (is ∙ (λ i. Some (same i, bytes))) in
+    let Q : ℕ → Type 0 = λ k. IsTrue (mid.writes_promised name k) in
+    let kept : IsTrue (mid.writes_promised name (length bytes + 0)) = subst Q (zero_more (length bytes)) (effect.writes_kept name (length bytes) promised) in
+    let own_changed : OnlyWrites name (length bytes) mid after = subst (λ n. OnlyWrites n (length bytes) mid after) same changed in
+    (own_changed.writes_kept 0 kept).1 ∙ effect.writes name
+
+changed : (form : Option Form) (before after : World) → ChangesFiles form before.shelf after.shelf → ((n : List ℕ) → MayTake before.shelf.contents (asking_for form) n (after.shelf.handed n - before.shelf.handed n)) → before.sink.faults ≤ after.sink.faults → Changes form before after
+changed form before after effect taken puts = record { effect = effect; unfailed = unfailed_by form before.shelf after.shelf effect; taken = taken; puts = puts }
+
 -- a call that read due files and printed something
 pub changes_by : {text : List ℕ} {status result : ℕ} (form : Option Form) (before after : World) → ReadsDue (asking_for form) before.shelf after.shelf → Prints text status before.sink after.sink result → Changes form before after
-changes_by form before after reads p = record {
-  effect = only_read (IsDue before.shelf.contents (asking_for form)) (written_by form) before.shelf after.shelf reads.effect;
-  taken = reads.taken;
-  puts = put_grows before.sink after.sink p;
-}
+changes_by form before after reads p = changed form before after (ended.reads_alone reads.effect) reads.taken (put_grows before.sink after.sink p)
 
 -- a call that printed nothing
 pub changes_nothing : (form : Option Form) (before after : ShelfView) (sink : SinkView) → ReadsDue (asking_for form) before after → Changes form (world before sink) (world after sink)
-changes_nothing form before after sink reads = record {
-  effect = only_read (IsDue before.contents (asking_for form)) (written_by form) before after reads.effect;
-  taken = reads.taken;
-  puts = omega arith;
-}
+changes_nothing form before after sink reads = changed form (world before sink) (world after sink) (ended.reads_alone reads.effect) reads.taken (omega arith)
 
-written_after : (names : List ℕ → Type 0) (by : Option (List ℕ)) (name bytes : List ℕ) (before mid after : ShelfView) → Some name ≡ by → OnlyReads names before mid → OnlyWrites name (length bytes) mid after → ChangesFiles names by before after
-written_after names None name bytes before mid after e effect w = cc
-written_after names (Some own) name bytes before mid after e effect w = let same : name ≡ own = cc in (mid, effect, (length bytes, subst (λ n. OnlyWrites n (length bytes) mid after) same w))
+module _ (form : Option Form) (before after : World) (mid : ShelfView) (reads : ReadsDue (asking_for form) before.shelf mid) (r : Report) (reached : Reaches (asking_for form) before.shelf mid (reported r)) where
+  changes_written : {text : List ℕ} {status result : ℕ} (name bytes : List ℕ) → r.written ≡ Some (name, bytes) → written_by form ≡ Some name → OnlyWrites name (length bytes) mid after.shelf → Prints text status before.sink after.sink result → Changes form before after
+  changes_written name bytes is own w p =
+      changed form before after (ended.writes_too mid r name bytes reads.effect (reported_answers (asking_for form) before.shelf mid r reached) is own w)
+      (λ n. subst (λ k. MayTake before.shelf.contents (asking_for form) n (k - before.shelf.handed n)) (sym (w.handed n)) (reads.taken n))
+      (put_grows before.sink after.sink p)
 
-module _ (form : Option Form) (before after : World) (mid : ShelfView) (reads : ReadsDue (asking_for form) before.shelf mid) where
-  changes_written : {text : List ℕ} {status result : ℕ} (name bytes : List ℕ) → Some name ≡ written_by form → OnlyWrites name (length bytes) mid after.shelf → Prints text status before.sink after.sink result → Changes form before after
-  changes_written name bytes own w p = record {
-    effect = written_after (IsDue before.shelf.contents (asking_for form)) (written_by form) name bytes before.shelf mid after.shelf own reads.effect w;
-    taken = λ n. subst (λ k. MayTake before.shelf.contents (asking_for form) n (k - before.shelf.handed n)) (sym (w.handed n)) (reads.taken n);
-    puts = put_grows before.sink after.sink p;
-  }
-
-  pub changes_report : (file : Option (List ℕ × List ℕ)) (text : List ℕ) (status result : ℕ) → ((name bytes : List ℕ) → file ≡ Some (name, bytes) → Some name ≡ written_by form)
+  pub changes_report : (file : Option (List ℕ × List ℕ)) (text : List ℕ) (status result : ℕ) → file ≡ r.written → ((name bytes : List ℕ) → file ≡ Some (name, bytes) → Some name ≡ written_by form)
       → Delivers file text status (world mid before.sink) after result → Changes form before after
-  changes_report None text status result own (delivery.printed w p) =
+  changes_report None text status result is own (delivery.printed w p) =
       changes_by form before after (subst (λ v. ReadsDue (asking_for form) before.shelf v) (sym w) reads) p
-  changes_report (Some f) text status result own (delivery.printed w p) = changes_written f.0 f.1 (own f.0 f.1 refl) w.effect p
-  changes_report file text status result own (delivery.spoiled name bytes e fails changed p) = changes_written name bytes (own name bytes e) changed p
+  changes_report (Some f) text status result is own (delivery.printed w p) = changes_written f.0 f.1 (sym is) (sym (own f.0 f.1 refl)) w.effect p
+  changes_report file text status result is own (delivery.spoiled name bytes e fails changed p) = changes_written name bytes (sym is ∙ e) (sym (own name bytes e)) changed p
 
 -- ---- a file that could not be written
 

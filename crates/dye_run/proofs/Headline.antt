@@ -8,30 +8,35 @@ use Rattle.std.proofs.lemmas.List.Elements.{All-head, All-map, All-tail}
 use Rattle.std.proofs.lemmas.Slice.Eq.{bytes_eq-Decides}
 use Rattle.box_cert.specs.Spelling.{Content, cert_text}
 use Rattle.box_cert.specs.Text.{cert_of}
+use Rattle.box_search.proofs.Results.{result_is_canonical}
+use Rattle.box_specs.specs.Answer.{is_match}
+use Rattle.box_specs.specs.Landscape.{Land}
 use Rattle.box_specs.specs.Validity.{first_failure}
 use Rattle.box_specs.specs.declared.certificate.CertFault.{CertFault}
+use Rattle.box_specs.specs.declared.certificate.Claim.{Claim}
+use Rattle.box_specs.specs.declared.certificate.Claim.TheVariants.{Floor, Match, NoMatch}
 use Rattle.box_specs.specs.declared.certificate.Why.{Why}
 use Rattle.cert_check.proofs.Exact.{nothing_fails, valid_if}
 use Rattle.cert_check.proofs.Sound.{means}
 use Rattle.cert_laws.proofs.Searched.{result_is_first, result_is_read, result_is_short, result_is_valid, result_means}
-use Rattle.cert_laws.specs.Laws.{content_of}
+use Rattle.cert_laws.specs.Laws.{ClaimHolds, content_of}
 use Rattle.job_file.specs.Job.{Values, job_of}
 use Rattle.job_file.specs.Resolve.{ResolvedJob}
 use Rattle.job_file.specs.declared.fault.JobFault.{JobFault}
 use Rattle.job_file.specs.declared.top.BatchRule.{BatchRule}
-use Rattle.job_file.specs.declared.top.BatchRule.TheVariants.{Either, With, Without}
+use Rattle.job_file.specs.declared.top.BatchRule.TheVariants.{Either}
 use Rattle.recipe_judge.specs.Recipes.{recipe_land}
 use Rattle.shade_report.specs.Outcomes.{accepted_text}
 use Rattle.shelf_io.specs.Contents.{Contents, write_bytes}
 use Rattle.dye_run.specs.Answers.{Report}
 use Rattle.dye_run.specs.Asking.{Answers, answers}
 use Rattle.dye_run.specs.Check.{accepted_report, cert_from, check_report, check_rule, unless_failing, unless_misspelled, valid_from}
-use Rattle.dye_run.specs.Commands.{asking_of}
+use Rattle.dye_run.specs.Commands.{Task, asking_by, asking_of, confirms, finds, summarises, task_of}
 use Rattle.dye_run.specs.Demo.{demo_job, demo_report, summary_text}
 use Rattle.dye_run.specs.Due.{CanBeRead, up_to_limit}
 use Rattle.dye_run.specs.Endings.{IsSearchable, Leaves, World, with_written}
-use Rattle.dye_run.specs.Forms.{check, correct, demo, form_of, predict}
-use Rattle.dye_run.specs.Headline.{Confirms, Finds, IsJobOfFiles, IsSearchStatus, SaysOfRecipes, Summarises}
+use Rattle.dye_run.specs.Forms.{check, form_of}
+use Rattle.dye_run.specs.Headline.{Confirms, Finds, IsJobOfFiles, IsSearchStatus, SaysOfRecipes, Summarises, TellsExactly}
 use Rattle.dye_run.specs.Jobs.{asks_cert, asks_job, job_from, light_files, unless_broken}
 use Rattle.dye_run.specs.Outcome.{conclusion_status, grammar, invalid, outcome_of, reported, too_long}
 use Rattle.dye_run.specs.Outcome as outcome
@@ -40,8 +45,8 @@ use Rattle.dye_run.specs.Statuses as table
 use Rattle.dye_run.specs.Words.{CertWords}
 use Rattle.dye_run.proofs.CertTrees.{one_tree}
 use Rattle.dye_run.proofs.FilesKnown.{cert_answers, job_bytes, job_cert_read, ok_next, result_from}
-use Rattle.dye_run.proofs.FormWords.{AreCertWords, correct_words, ends_as_cert, predict_words}
-use Rattle.dye_run.proofs.ShowLaws.{differences_enclose}
+use Rattle.dye_run.proofs.FormWords.{AreCertWords, KeepsWords, ends_as_cert, form_keeps, mapped}
+use Rattle.dye_run.proofs.ShowLaws.{differences_enclose, recipe_evaluated}
 use Rattle.job_laws.proofs.Accepted.{files_are_no_certs}
 use Rattle.job_laws.proofs.Either.{accepts_either}
 use Rattle.job_laws.specs.Laws.{IsNoCert}
@@ -149,11 +154,29 @@ check_accepts r h = rw (is_spelled r h, is_valid r h)
 
 -- ---- a search
 
+-- what the claim of a search means determines its status
+exact_by : (l : Land) (budget : ℕ) (claim : Claim) (status : ℕ) → ClaimHolds l budget claim → conclusion_status (conclusion_of claim) ≡ status → TellsExactly l budget status
+exact_by l budget (Match recipe) status h e = record {
+  found = λ r within passes enough. sym e;
+  none = λ never enough. let no : is_match l recipe.items ≡ false = never recipe.items h.1.grid in let yes : is_match l recipe.items ≡ true = h.1.matches in cc;
+  floor = λ few. let enough = h.0 in absurd (omega (arith, few, enough));
+}
+exact_by l budget NoMatch status h e = record {
+  found = λ r within passes enough. let no : is_match l r ≡ false = h.1 r within in cc;
+  none = λ never enough. sym e;
+  floor = λ few. let enough = h.0 in absurd (omega (arith, few, enough));
+}
+exact_by l budget (Floor cost) status h e = record {
+  found = λ r within passes enough. let few = h.0 in absurd (omega (arith, few, enough));
+  none = λ never enough. let few = h.0 in absurd (omega (arith, few, enough));
+  floor = λ few. sym e;
+}
+
 module _ (rule : BatchRule) (words : CertWords) (kept : AreCertWords words) (before after : World) (status : ℕ) (report : Report) where
-  pub finds : Answers before.shelf.contents (asks_job rule words.job (search_report words.cert)) (reported report) → conclusion_status report.conclusion ≡ status → Leaves before after report.text report.written → IfSome report.recipes IsSearchable
+  pub found : Answers before.shelf.contents (asks_job rule words.job (search_report words.cert)) (reported report) → conclusion_status report.conclusion ≡ status → Leaves before after report.text report.written → IfSome report.recipes IsSearchable
       → Finds rule words before after status
   unfolding search_report
-  finds w ends leaves searched =
+  found w ends leaves searched =
       let bytes_read = job_bytes before.shelf.contents rule words.job (search_report words.cert) report w in
       let r = bytes_read.0 in
       let s = result_for r in
@@ -170,7 +193,11 @@ module _ (rule : BatchRule) (words : CertWords) (kept : AreCertWords words) (bef
         boxes = s.boxes;
         from_files = bytes_read.1;
         ends = ap (λ x. conclusion_status x.conclusion) is ∙ ends;
+        exact = exact_by (recipe_land r) r.job.head.budget s.claim status (result_is_first (recipe_land r) h.lawful r.job.head.budget) (ap (λ x. conclusion_status x.conclusion) is ∙ ends);
         holds = result_is_first (recipe_land r) h.lawful r.job.head.budget;
+        judged = (result_is_canonical (recipe_land r) h.lawful r.job.head.budget).judged;
+        canonical = result_is_canonical (recipe_land r) h.lawful r.job.head.budget;
+        valid = result_is_valid (recipe_land r) h.lawful r.job.head.budget;
         means = result_means (recipe_land r) h.lawful r.job.head.budget;
         printed = leaves.taken ∙ ap (λ x. append_known before.sink.taken x.text) (sym is);
         written = written;
@@ -199,9 +226,9 @@ unfolding valid_from
 holds_from r content valid e = holding content valid (first_failure (recipe_land r) content.claim content.listed content.lines) e
 
 module _ (words : CertWords) (before after : World) (report : Report) where
-  pub confirms : Answers before.shelf.contents (asks_cert check_rule words.job words.cert check_report) (reported report) → Leaves before after report.text report.written → IfSome report.recipes IsSearchable → Confirms words before after
+  pub confirmed : Answers before.shelf.contents (asks_cert check_rule words.job words.cert check_report) (reported report) → Leaves before after report.text report.written → IfSome report.recipes IsSearchable → Confirms words before after
   unfolding check_report
-  confirms w leaves searched =
+  confirmed w leaves searched =
       let bytes_read = job_cert_read before.shelf.contents check_rule words.job words.cert check_report report w in
       let r = bytes_read.0 in
       let read = ok_next (cert_from (length (recipe_land r).top.lo) bytes_read.1) _ report bytes_read.4 in
@@ -227,10 +254,10 @@ module _ (words : CertWords) (before after : World) (report : Report) where
 -- ---- a summary
 
 module _ (number : ℕ) (before after : World) (status : ℕ) (report : Report) where
-  pub summary : Answers before.shelf.contents (answers (outcome_of (demo_report number (demo_job number)))) (reported report) → conclusion_status report.conclusion ≡ status → Leaves before after report.text report.written → IfSome report.recipes IsSearchable
+  pub summarised : Answers before.shelf.contents (answers (outcome_of (demo_report number (demo_job number)))) (reported report) → conclusion_status report.conclusion ≡ status → Leaves before after report.text report.written → IfSome report.recipes IsSearchable
       → Summarises number before after status
   unfolding demo_report
-  summary w ends leaves searched =
+  summarised w ends leaves searched =
       let r = demo_job number in
       let s = result_for r in
       let own : Report = record { conclusion = conclusion_of s.claim; text = summary_text number r s; evaluations = []; written = None; recipes = Some r } in
@@ -242,6 +269,9 @@ module _ (number : ℕ) (before after : World) (status : ℕ) (report : Report) 
         lines = s.lines;
         boxes = s.boxes;
         ends = ap (λ x. conclusion_status x.conclusion) is ∙ ends;
+        exact = exact_by (recipe_land r) r.job.head.budget s.claim status (result_is_first (recipe_land r) h.lawful r.job.head.budget) (ap (λ x. conclusion_status x.conclusion) is ∙ ends);
+        judged = (result_is_canonical (recipe_land r) h.lawful r.job.head.budget).judged;
+        canonical = result_is_canonical (recipe_land r) h.lawful r.job.head.budget;
         holds = result_is_first (recipe_land r) h.lawful r.job.head.budget;
         valid = result_is_valid (recipe_land r) h.lawful r.job.head.budget;
         means = result_means (recipe_land r) h.lawful r.job.head.budget;
@@ -259,25 +289,28 @@ module _ (ws : List (List ℕ)) (before after : World) (status : ℕ) (tells : t
   report_of : table.kind_of status ≡ table.report → table.IsReport (form_of ws) before after status
   report_of e = subst (λ k. table.Tells (form_of ws) before after k status) e tells.tells
 
-  says_predicts : (words : CertWords) → form_of ws ≡ Some (predict words) → IsSearchStatus status → Finds Without words before after status
-  says_predicts words e h =
-      let r = subst (λ f. table.IsReport f before after status) e (report_of (found_kind status h)) in
-      finds Without words (predict_words ws words e) before after status r.report r.answers r.status r.leaves r.searched
+  -- the words have the form of a task
+  of_task : (t : Task) → option_map task_of (form_of ws) ≡ Some t → table.kind_of status ≡ table.report
+      → (r : Report) × Answers before.shelf.contents (asking_by t) (reported r) × (conclusion_status r.conclusion ≡ status) × Leaves before after r.text r.written × IfSome r.recipes IsSearchable × KeepsWords t
+  of_task t e h =
+      let m = mapped task_of (form_of ws) t e in
+      let r = subst (λ f. table.IsReport f before after status) m.1 (report_of h) in (
+        r.report,
+        subst (λ t. Answers before.shelf.contents (asking_by t) (reported r.report)) m.2 r.answers,
+        r.status,
+        r.leaves,
+        r.searched,
+        subst KeepsWords m.2 (form_keeps ws m.0 m.1),
+      )
 
-  says_corrects : (words : CertWords) → form_of ws ≡ Some (correct words) → IsSearchStatus status → Finds With words before after status
-  says_corrects words e h =
-      let r = subst (λ f. table.IsReport f before after status) e (report_of (found_kind status h)) in
-      finds With words (correct_words ws words e) before after status r.report r.answers r.status r.leaves r.searched
+  says_finds : (rule : BatchRule) (words : CertWords) → option_map task_of (form_of ws) ≡ Some (finds rule words) → IsSearchStatus status → Finds rule words before after status
+  says_finds rule words e h = let r = of_task (finds rule words) e (found_kind status h) in found rule words r.5 before after status r.0 r.1 r.2 r.3 r.4
 
-  says_checks : (words : CertWords) → form_of ws ≡ Some (check words) → status ≡ 0 → Confirms words before after
-  says_checks words e h =
-      let r = subst (λ f. table.IsReport f before after status) e (report_of (found_kind status (inl h))) in
-      confirms words before after r.report r.answers r.leaves r.searched
+  says_confirms : (words : CertWords) → option_map task_of (form_of ws) ≡ Some (confirms words) → status ≡ 0 → Confirms words before after
+  says_confirms words e h = let r = of_task (confirms words) e (found_kind status (inl h)) in confirmed words before after r.0 r.1 r.3 r.4
 
-  says_summarises : (number : ℕ) → form_of ws ≡ Some (demo number) → IsSearchStatus status → Summarises number before after status
-  says_summarises number e h =
-      let r = subst (λ f. table.IsReport f before after status) e (report_of (found_kind status h)) in
-      summary number before after status r.report r.answers r.status r.leaves r.searched
+  says_summarises : (number : ℕ) → option_map task_of (form_of ws) ≡ Some (summarises number) → IsSearchStatus status → Summarises number before after status
+  says_summarises number e h = let r = of_task (summarises number) e (found_kind status h) in summarised number before after status r.0 r.1 r.2 r.3 r.4
 
   pub says_of_recipes : SaysOfRecipes (form_of ws) before after status
-  says_of_recipes = record { predicts = says_predicts; corrects = says_corrects; checks = says_checks; summarises = says_summarises; finer = differences_enclose }
+  says_of_recipes = record { finds = says_finds; confirms = says_confirms; summarises = says_summarises; evaluated = recipe_evaluated; finer = differences_enclose }

@@ -9,12 +9,12 @@ use Rattle.dye_run.specs.Answers.{Report}
 use Rattle.job_file.specs.declared.top.BatchRule.TheVariants.{With, Without}
 use Rattle.dye_run.specs.Asking.{Answers, Asking, answers, asks, held_or_missing, result_of}
 use Rattle.dye_run.specs.Check.{check_report, check_rule}
-use Rattle.dye_run.specs.Commands.{asking_for, asking_of}
+use Rattle.dye_run.specs.Commands.{asking_for, asking_of, written_by}
 use Rattle.dye_run.specs.Demo.{demo_job}
 use Rattle.dye_run.specs.Due.{CanBeRead, up_to_limit}
 use Rattle.dye_run.specs.Endings.{Ended, IsSearched, IsUnreadable, Leaves, Reaches, World}
 use Rattle.dye_run.specs.Endings as ended
-use Rattle.dye_run.specs.Forms.{Form, check, correct, demo, diff, ks, lab, predict, show, written_by, xyz}
+use Rattle.dye_run.specs.Forms.{Form, check, correct, demo, diff, ks, lab, predict, show, xyz}
 use Rattle.dye_run.specs.Inputs.{Tables, asks_tables, table_from, tables_from}
 use Rattle.dye_run.specs.Lab.{lab_evaluations}
 use Rattle.dye_run.specs.Outcome as faults

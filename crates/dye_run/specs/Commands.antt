@@ -1,5 +1,6 @@
--- What each command asks for, and its report.
-use Rattle.std.specs.Prelude.{Option, Some, None}
+-- What each command does: a table with a line for each form.
+use Rattle.std.specs.Prelude.{ℕ, List, Option, Some, None}
+use Rattle.job_file.specs.declared.top.BatchRule.{BatchRule}
 use Rattle.job_file.specs.declared.top.BatchRule.TheVariants.{With, Without}
 use Rattle.dye_run.specs.Asking.{Asking, answers}
 use Rattle.dye_run.specs.Check.{check_report, check_rule}
@@ -14,20 +15,52 @@ use Rattle.dye_run.specs.Lab.{lab_evaluations}
 use Rattle.dye_run.specs.Outcome.{outcome_of, usage}
 use Rattle.dye_run.specs.Search.{search_report}
 use Rattle.dye_run.specs.Show.{show_report, show_rule}
+use Rattle.dye_run.specs.Words.{CertWords}
 use Rattle.dye_run.specs.Xyz.{xyz_evaluations}
 
+-- what a command does: it reports on files, and claims nothing of the recipes of a job; or it finds
+-- the first recipe that keeps the limits and passes, of a job by a rule for its batch, and writes
+-- the certificate that shows it; or it confirms a certificate; or it summarises the search among
+-- the recipes of the generated job with a number
+pub data Task : Type 0 where
+  reports : Asking → Task
+  finds : BatchRule → CertWords → Task
+  confirms : CertWords → Task
+  summarises : (number : ℕ) → Task
+
+abbrev pub task_of : Form → Task
+task_of (ks words) = reports (asks_book words.curves (ks_report words))
+task_of (xyz words) = reports (asks_tables words.curves words.weights (coordinates_report xyz_evaluations words))
+task_of (lab words) = reports (asks_tables words.curves words.weights (coordinates_report lab_evaluations words))
+task_of (diff words) = reports (asks_tables words.curves words.weights (diff_report words))
+task_of (show words) = reports (asks_job show_rule words.job (show_report words))
+task_of (predict words) = finds Without words
+task_of (correct words) = finds With words
+task_of (check words) = confirms words
+task_of (demo number) = summarises number
+
+-- the files that a task asks for, and then its outcome
+abbrev pub asking_by : Task → Asking
+asking_by (reports asking) = asking
+asking_by (finds rule words) = asks_job rule words.job (search_report words.cert)
+asking_by (confirms words) = asks_cert check_rule words.job words.cert check_report
+asking_by (summarises number) = answers (outcome_of (demo_report number (demo_job number)))
+
+-- the name that a task writes a file under, where it writes one
+abbrev pub written_for : Task → Option (List ℕ)
+written_for (reports asking) = None
+written_for (finds rule words) = Some words.cert
+written_for (confirms words) = None
+written_for (summarises number) = None
+
 abbrev pub asking_of : Form → Asking
-asking_of (ks words) = asks_book words.curves (ks_report words)
-asking_of (xyz words) = asks_tables words.curves words.weights (coordinates_report xyz_evaluations words)
-asking_of (lab words) = asks_tables words.curves words.weights (coordinates_report lab_evaluations words)
-asking_of (diff words) = asks_tables words.curves words.weights (diff_report words)
-asking_of (show words) = asks_job show_rule words.job (show_report words)
-asking_of (predict words) = asks_job Without words.job (search_report words.cert)
-asking_of (correct words) = asks_job With words.job (search_report words.cert)
-asking_of (demo number) = answers (outcome_of (demo_report number (demo_job number)))
-asking_of (check words) = asks_cert check_rule words.job words.cert check_report
+asking_of form = asking_by (task_of form)
 
 -- the same for words that may have no form
 abbrev pub asking_for : Option Form → Asking
 asking_for None = answers usage
 asking_for (Some form) = asking_of form
+
+abbrev pub written_by : Option Form → Option (List ℕ)
+written_by None = None
+written_by (Some form) = written_for (task_of form)

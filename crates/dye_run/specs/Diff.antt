@@ -9,8 +9,7 @@ use Rattle.fix_bounds.specs.Scales.{base_unit}
 use Rattle.dye_run.specs.Colours.{curve_lab}
 use Rattle.dye_run.specs.Inputs.{◌>>=◌, Tables, curve_from}
 use Rattle.dye_run.specs.Outcome.{Fault}
-use Rattle.metamerism.specs.declared.outcomes.Verdict.{Verdict}
-use Rattle.metamerism.specs.declared.outcomes.Verdict.TheVariants.{Fail, Pass, Undecided}
+use Rattle.shade_report.specs.Recipes.{verdict_name}
 use Rattle.dye_run.specs.Words.{is_file_word, number_in}
 use Rattle.dye_run.specs.declared.statuses.Conclusion.TheVariants.{Judged}
 
@@ -52,11 +51,6 @@ curve_difference l10 c10 weights standard sample n = cmc_at l10 c10 n (curve_lab
 abbrev pub difference_evaluation : DiffWords → WeightTable → List ℕ → List ℕ → Evaluation
 difference_evaluation words weights standard sample =
     record { label = codes "DE"; at = curve_difference words.l10 words.c10 weights standard sample; tolerance = words.tolerance }
-
-abbrev pub verdict_name : Verdict → List ℕ
-verdict_name Pass = codes "pass"
-verdict_name (Fail number) = codes "fail"
-verdict_name Undecided = codes "undecided"
 
 -- the line of a difference, and a line for its verdict where there is a tolerance
 abbrev pub difference_report : Option ℕ → Evaluation → Report

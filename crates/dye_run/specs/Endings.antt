@@ -12,9 +12,9 @@ use Rattle.shelf_io.specs.Taking.{AddsPrefix}
 use Rattle.shelf_io.specs.View.{ShelfView, SinkView}
 use Rattle.dye_run.specs.Answers.{Report}
 use Rattle.dye_run.specs.Asking.{Answers, Asking, IsDue, MayTake}
-use Rattle.dye_run.specs.Commands.{asking_for}
+use Rattle.dye_run.specs.Commands.{asking_for, written_by}
 use Rattle.dye_run.specs.Due.{FailsToRead}
-use Rattle.dye_run.specs.Forms.{Form, written_by}
+use Rattle.dye_run.specs.Forms.{Form}
 use Rattle.dye_run.specs.Outcome.{Outcome, not_written, refused, reported, status_of, text_of, unreadable, usage, written_of}
 
 -- what is known of the shelf and of the sink at one moment
@@ -120,16 +120,28 @@ pub data Ended (form : Option Form) (before after : World) (status : ℕ) : Type
       → Leaves before after [] None
       → Ended form before after status
 
--- due files were read, and then, where the command writes a file, only the file with that name was
--- written
-abbrev pub ChangesFiles : (names : List ℕ → Type 0) → Option (List ℕ) → (before after : ShelfView) → Type 0
-ChangesFiles names None before after = OnlyReads names before after
-ChangesFiles names (Some name) before after = (mid : ShelfView) × OnlyReads names before mid × ((size : ℕ) × OnlyWrites name size mid after)
+-- only due files were read; or they were, and then only the file of the outcome was written, and of
+-- as many bytes as the outcome writes
+pub data ChangesFiles (form : Option Form) (before after : ShelfView) : Type 0 where
+  reads_alone : OnlyReads (IsDue before.contents (asking_for form)) before after → ChangesFiles form before after
+  writes_too : (mid : ShelfView) (r : Report) (name bytes : List ℕ)
+      → OnlyReads (IsDue before.contents (asking_for form)) before mid
+      → Answers before.contents (asking_for form) (reported r)
+      → r.written ≡ Some (name, bytes)
+      → written_by form ≡ Some name
+      → OnlyWrites name (length bytes) mid after
+      → ChangesFiles form before after
+
+-- the file of every possible outcome can be written under the name, as is promised
+abbrev pub ArePromised : Option Form → ShelfView → List ℕ → Type 0
+ArePromised form before name =
+    (r : Report) (bytes : List ℕ) → Answers before.contents (asking_for form) (reported r) → r.written ≡ Some (name, bytes) → IsTrue (before.writes_promised name (length bytes))
 
 -- What a call changes: the shelf by reads of due files, of each at most one byte more than its
--- limit each time that it is due, and by writes of the file that the command writes; and the sink's
--- count of failures does not fall
+-- limit each time that it is due, and by writes of the file that the command writes, of which none
+-- fails that was promised; and the sink's count of failures does not fall
 pub record Changes (form : Option Form) (before after : World) : Type 0 where
-  pub effect : ChangesFiles (IsDue before.shelf.contents (asking_for form)) (written_by form) before.shelf after.shelf
+  pub effect : ChangesFiles form before.shelf after.shelf
+  pub unfailed : (name : List ℕ) → written_by form ≡ Some name → ArePromised form before.shelf name → after.shelf.write_faults name ≡ before.shelf.write_faults name
   pub taken : (n : List ℕ) → MayTake before.shelf.contents (asking_for form) n (after.shelf.handed n - before.shelf.handed n)
   pub puts : before.sink.faults ≤ after.sink.faults

@@ -33,16 +33,3 @@ form_of (command ∷ words) =
     else (if bytes_eq command (codes "check") then option_map check (cert_words words)
     else (if bytes_eq command (codes "demo") then option_map demo (demo_words words)
     else None))))))))
-
--- the name that a command writes a file under, where it writes one
-abbrev pub written_by : Option Form → Option (List ℕ)
-written_by None = None
-written_by (Some (ks words)) = None
-written_by (Some (xyz words)) = None
-written_by (Some (lab words)) = None
-written_by (Some (diff words)) = None
-written_by (Some (show words)) = None
-written_by (Some (predict words)) = Some words.cert
-written_by (Some (correct words)) = Some words.cert
-written_by (Some (check words)) = None
-written_by (Some (demo number)) = None

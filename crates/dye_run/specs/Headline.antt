@@ -1,35 +1,43 @@
 -- What a command that searches or checks claims about the recipes of a job, in terms of the
 -- recipes: the plain list of them, their costs, limits and verdicts.
-use Rattle.std.specs.Prelude.{◌≡◌, ◌⊎◌, ◌*◌, ◌<◌, ℕ, List, length, map, Option, Some, Ok}
+use Rattle.std.specs.Prelude.{◌≡◌, ◌⊎◌, ◌*◌, ◌<◌, ◌≤◌, ℕ, true, min, List, length, map, option_map, Option, Some, None, Ok}
 use Rattle.std.specs.Io.KnownBytes.{append_known}
 use Rattle.std.specs.List.{AllZip}
 use Rattle.box_cert.specs.Spelling.{Content, cert_text}
 use Rattle.box_cert.specs.Text.{cert_of}
+use Rattle.box_specs.specs.Answer.{IsAnswer, is_match}
+use Rattle.box_specs.specs.Canonical.{IsCanonical}
 use Rattle.box_specs.specs.declared.certificate.CertLine.{CertLine}
 use Rattle.box_specs.specs.declared.certificate.Claim.{Claim}
+use Rattle.box_specs.specs.Landscape.{Land}
 use Rattle.box_specs.specs.Meaning.{Means}
+use Rattle.box_specs.specs.Span.{IsWithin}
+use Rattle.box_specs.specs.Tree.{need}
 use Rattle.box_specs.specs.Validity.{IsValid}
 use Rattle.cert_laws.specs.Laws.{ClaimHolds}
 use Rattle.interval_specs.specs.Encloses.{Encloses}
 use Rattle.job_file.specs.Job.{Values}
 use Rattle.job_file.specs.Resolve.{ResolvedJob}
 use Rattle.job_file.specs.declared.top.BatchRule.{BatchRule}
-use Rattle.job_file.specs.declared.top.BatchRule.TheVariants.{With, Without}
+use Rattle.metamerism.specs.declared.outcomes.Verdict.{Verdict}
 use Rattle.recipe_judge.specs.Evaluation.{differences_at}
 use Rattle.recipe_judge.specs.Recipes.{recipe_land}
 use Rattle.shade_report.specs.Outcomes.{accepted_text, demo_text, outcome_text}
+use Rattle.shade_report.specs.Recipes.{RecipeValues, verdict_name}
 use Rattle.shelf_io.specs.Contents.{Contents}
 use Rattle.fix_bounds.specs.Scales.{base_unit}
+use Rattle.dye_run.specs.Answers.{Evaluation, verdict_on}
 use Rattle.dye_run.specs.Asking.{result_of}
 use Rattle.dye_run.specs.Check.{accepted_report, check_rule}
-use Rattle.dye_run.specs.Commands.{asking_of}
+use Rattle.dye_run.specs.Commands as task
+use Rattle.dye_run.specs.Commands.{asking_of, task_of}
 use Rattle.dye_run.specs.Demo.{demo_job, matched_cost}
 use Rattle.dye_run.specs.Due.{CanBeRead}
 use Rattle.dye_run.specs.Endings.{World, with_written}
-use Rattle.dye_run.specs.Forms.{Form, check, correct, demo, predict}
+use Rattle.dye_run.specs.Forms.{Form, check}
 use Rattle.dye_run.specs.Jobs.{JobTables, job_from, job_tables_from, light_files, resolved_from}
 use Rattle.dye_run.specs.Outcome.{conclusion_status, reported}
-use Rattle.dye_run.specs.Search.{conclusion_of, matched_values}
+use Rattle.dye_run.specs.Search.{conclusion_of, evaluations_of, matched_values}
 use Rattle.dye_run.specs.Show.{recipe_values}
 use Rattle.dye_run.specs.Words.{CertWords}
 use Rattle.spectral_tables.specs.declared.records.TheConstants.{TABLE_LIMIT}
@@ -56,13 +64,24 @@ abbrev pub CheckAccepts : Option Contents → CertWords → ResolvedJob → Clai
 CheckAccepts contents words job claim =
     (c : Contents) → contents ≡ Some c → result_of c.file (asking_of (check words)) ≡ Ok (reported (accepted_report job claim))
 
--- A search ended with this status: 0 with a match, 5 with none, 6 with a floor.
+-- a search ends with this status exactly where what it stands for holds: 0, that a recipe keeps the
+-- limits and passes, and the budget suffices; 5, that there is none, and it suffices; 6, that it
+-- does not
+pub record TellsExactly (l : Land) (budget status : ℕ) : Type 0 where
+  pub found : (recipe : List ℕ) → IsWithin recipe l.top → is_match l recipe ≡ true → need l ≤ budget → status ≡ 0
+  pub none : IsAnswer l None → need l ≤ budget → status ≡ 5
+  pub floor : budget < need l → status ≡ 6
+
+-- A search ended with this status: 0 with a match, 5 with none, 6 with a floor. The converse is
+-- `exact`.
 -- `holds`: the match is the first recipe of the plain list, by cost and then by steps, that keeps
 -- the limits and passes; or there is none; or the budget did not suffice, and every recipe that
 -- keeps the limits and passes costs at least the floor.
 -- `means`: a recipe that keeps the limits fails or is listed: under a match each one before it,
 -- under no match each one, under a floor each one that costs less. Each listed recipe keeps the
 -- limits and is undecided.
+-- As many boxes were judged as are needed, or as the budget allows; the certificate is the canonical
+-- one of the budget, and valid.
 -- The report and the certificate are printed and written, and `check` accepts the certificate
 pub record Finds (rule : BatchRule) (words : CertWords) (before after : World) (status : ℕ) : Type 0 where
   pub job : ResolvedJob
@@ -72,7 +91,11 @@ pub record Finds (rule : BatchRule) (words : CertWords) (before after : World) (
   pub boxes : ℕ
   pub from_files : IsJobOfFiles before.shelf.contents rule words.job job
   pub ends : conclusion_status (conclusion_of claim) ≡ status
+  pub exact : TellsExactly (recipe_land job) job.job.head.budget status
   pub holds : ClaimHolds (recipe_land job) job.job.head.budget claim
+  pub judged : boxes ≡ min (need (recipe_land job)) job.job.head.budget
+  pub canonical : IsCanonical (recipe_land job) job.job.head.budget claim listed lines boxes
+  pub valid : IsValid (recipe_land job) claim listed lines
   pub means : Means (recipe_land job) listed claim
   pub printed : after.sink.taken ≡ append_known before.sink.taken (outcome_text job.job claim boxes (matched_values job claim) (map (recipe_values job) listed))
   pub written : after.shelf.contents ≡ with_written (Some (words.cert, cert_text (record { claim = claim; listed = listed; lines = lines }))) before.shelf.contents
@@ -99,6 +122,9 @@ pub record Summarises (number : ℕ) (before after : World) (status : ℕ) : Typ
   pub lines : List CertLine
   pub boxes : ℕ
   pub ends : conclusion_status (conclusion_of claim) ≡ status
+  pub exact : TellsExactly (recipe_land (demo_job number)) (demo_job number).job.head.budget status
+  pub judged : boxes ≡ min (need (recipe_land (demo_job number))) (demo_job number).job.head.budget
+  pub canonical : IsCanonical (recipe_land (demo_job number)) (demo_job number).job.head.budget claim listed lines boxes
   pub holds : ClaimHolds (recipe_land (demo_job number)) (demo_job number).job.head.budget claim
   pub valid : IsValid (recipe_land (demo_job number)) claim listed lines
   pub means : Means (recipe_land (demo_job number)) listed claim
@@ -108,11 +134,22 @@ pub record Summarises (number : ℕ) (before after : World) (status : ℕ) : Typ
 abbrev pub IsSearchStatus : ℕ → Type 0
 IsSearchStatus status = (status ≡ 0) ⊎ ((status ≡ 5) ⊎ (status ≡ 6))
 
--- What the status of a command that searches or checks means for the recipes. `finer`: the
--- differences that are printed of a recipe enclose those at every finer scale m * 10^12
+-- the verdict of an evaluation is this one, where lights that fail are not told apart
+abbrev pub IsVerdictOf : Evaluation → Verdict → Type 0
+IsVerdictOf e verdict = (t : ℕ) × (e.tolerance ≡ Some t) × (verdict_name verdict ≡ verdict_name (verdict_on e t base_unit))
+
+-- the differences of a recipe, and the verdict on each, are those of the evaluations
+pub record AreEvaluated (values : RecipeValues) (evaluations : List Evaluation) : Type 0 where
+  pub ends : values.deltas ≡ map (λ e. e.at base_unit) evaluations
+  pub verdicts : AllZip IsVerdictOf evaluations values.each
+
+-- What the status of a command that searches or checks means for the recipes, by its task.
+-- `evaluated`: the ends that are printed of a recipe, and whether it passes, fails or is undecided
+-- under each light, are those of its evaluations. `finer`: the differences that are printed of a
+-- recipe enclose those at every finer scale m * 10^12
 pub record SaysOfRecipes (form : Option Form) (before after : World) (status : ℕ) : Type 0 where
-  pub predicts : (words : CertWords) → form ≡ Some (predict words) → IsSearchStatus status → Finds Without words before after status
-  pub corrects : (words : CertWords) → form ≡ Some (correct words) → IsSearchStatus status → Finds With words before after status
-  pub checks : (words : CertWords) → form ≡ Some (check words) → status ≡ 0 → Confirms words before after
-  pub summarises : (number : ℕ) → form ≡ Some (demo number) → IsSearchStatus status → Summarises number before after status
+  pub finds : (rule : BatchRule) (words : CertWords) → option_map task_of form ≡ Some (task.finds rule words) → IsSearchStatus status → Finds rule words before after status
+  pub confirms : (words : CertWords) → option_map task_of form ≡ Some (task.confirms words) → status ≡ 0 → Confirms words before after
+  pub summarises : (number : ℕ) → option_map task_of form ≡ Some (task.summarises number) → IsSearchStatus status → Summarises number before after status
+  pub evaluated : (job : ResolvedJob) (recipe : List ℕ) → AreEvaluated (recipe_values job recipe) (evaluations_of job recipe)
   pub finer : (job : ResolvedJob) (recipe : List ℕ) (m : ℕ) → 0 < m → AllZip (Encloses m) (recipe_values job recipe).deltas (differences_at (m * base_unit) job recipe recipe)

@@ -7,7 +7,7 @@ use fix_bounds::{Base, Iv};
 use std::alloc::{AllocError, Global};
 
 /// Appends one line: a label, and both ends of an enclosure.
-pub(crate) fn push_line(
+pub(crate) fn push_enclosure(
     text: &mut Vec<u8>,
     label: &str,
     enclosure: Iv<Base>,
@@ -34,8 +34,8 @@ pub(crate) fn three_lines(
         ++ line second.entry.0.now second.entry.1 ++ line third.entry.0.now third.entry.1) }
 {
     let mut text = Vec::new(alloc);
-    push_line(&mut text, first.0, first.1)?;
-    push_line(&mut text, second.0, second.1)?;
-    push_line(&mut text, third.0, third.1)?;
+    push_enclosure(&mut text, first.0, first.1)?;
+    push_enclosure(&mut text, second.0, second.1)?;
+    push_enclosure(&mut text, third.0, third.1)?;
     Ok(text)
 }

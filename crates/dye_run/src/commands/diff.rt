@@ -6,7 +6,7 @@ ghost use Rattle.std.specs.Option.{ForSome};
 ghost use Rattle.dye_run.specs.Answers.{Evaluation};
 ghost use Rattle.fix_bounds.specs.Scales.{base_unit};
 ghost use Rattle.dye_run.specs.Commands.{asking_of};
-ghost use Rattle.dye_run.specs.Diff.{diff_report, diff_with, diff_words, difference_report, tolerance_of, verdict_name};
+ghost use Rattle.dye_run.specs.Diff.{diff_report, diff_with, diff_words, difference_report, tolerance_of};
 ghost use Rattle.dye_run.specs.Forms as form;
 ghost use Rattle.dye_run.specs.Judging.{Matches};
 ghost use Rattle.dye_run.specs.Views.{diff_view, tables_view, tolerance_view};
@@ -14,7 +14,7 @@ ghost use Rattle.dye_run.specs.Views.{diff_view, tables_view, tolerance_view};
 use crate::colour::difference;
 use crate::inputs::read_tables;
 use crate::inquiry::Inquiry;
-use crate::lines::push_line;
+use crate::lines::push_enclosure;
 use crate::report::{Report, plain_report};
 use crate::statuses::Conclusion;
 use crate::stop::Stop;
@@ -23,7 +23,8 @@ use crate::tolerance::Tolerance;
 use crate::words::{names_file, number_in};
 use cmc_bounds::Cmc;
 use fix_bounds::{Base, Iv};
-use metamerism::{Verdict, judge_light};
+use metamerism::judge_light;
+use shade_report::verdict_name;
 use shelf_io::Shelf;
 use std::alloc::{AllocError, Global};
 
@@ -134,16 +135,6 @@ impl<'a> Inquiry<'a> for Diff<'a> {
     }
 }
 
-fn verdict_name(verdict: Verdict) -> &'static str
-    ensures { result.now ≡ verdict_name verdict }
-{
-    match verdict {
-        Verdict::Pass => "pass",
-        Verdict::Fail(_) => "fail",
-        Verdict::Undecided => "undecided",
-    }
-}
-
 // The line of a difference, and a line for its verdict where there is a tolerance.
 fn difference_report<'a>(
     alloc: Global,
@@ -155,7 +146,7 @@ fn difference_report<'a>(
         → Matches report (difference_report (tolerance_view tolerance) e)) }
 {
     let mut text = Vec::new(alloc);
-    push_line(&mut text, "DE", difference)?;
+    push_enclosure(&mut text, "DE", difference)?;
     let Some(tolerance) = tolerance else {
         return Ok(plain_report(text));
     };

@@ -11,7 +11,7 @@ ghost use Rattle.dye_run.specs.Views.{ks_view};
 
 use crate::inputs::read_book;
 use crate::inquiry::Inquiry;
-use crate::lines::push_line;
+use crate::lines::push_enclosure;
 use crate::report::{Report, plain_report};
 use crate::stop::Stop;
 use crate::tables::curve_from;
@@ -70,7 +70,7 @@ fn ks_text(alloc: Global, curve: &Curve) -> Result<Vec<u8>, AllocError>
     for wave in 0..curve.waves() {
         let wavelength = usize::from(waves.first) + usize::from(waves.step) * wave;
         let label = format!(in alloc; "{wavelength}")?;
-        push_line(
+        push_enclosure(
             &mut text,
             label.as_str(),
             ks_curves::ks::<Base>(curve.at(wave)),

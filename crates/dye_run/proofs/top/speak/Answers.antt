@@ -21,7 +21,7 @@ returns-in-Ok-clause-changes g c =
     let judged = c.in-Ok.ensures.judged in
     let form = form_of (map string_bytes c.args.words.now) in
     changes_report form (world (g.H.Shelf.view c.args.shelf.now) (g.O.Sink.view c.args.out.now)) (world (g.H.Shelf.view c.deliver.new.shelf) (g.O.Sink.view c.deliver.new.out)) (g.H.Shelf.view c.answer.new.shelf)
-    c.in-Ok.ensures.reads (file_view c.in-Ok.report.written) c.in-Ok.report.text.items (conclusion_status c.in-Ok.report.conclusion) c.deliver.result
+    c.in-Ok.ensures.reads judged.0 judged.1 (file_view c.in-Ok.report.written) c.in-Ok.report.text.items (conclusion_status c.in-Ok.report.conclusion) c.deliver.result judged.2.written
     (writes_reached form (g.H.Shelf.view c.args.shelf.now) (g.H.Shelf.view c.answer.new.shelf) judged.0 (file_view c.in-Ok.report.written) judged.1 judged.2.written) c.deliver.ensures
 
 pub returns-in-Some-clause-ended : goal.returns-in-Some-clause-ended
