@@ -1,7 +1,6 @@
 -- The generated job with a number, as it is read.
-use Rattle.std.proofs.Common.{◌≡◌, ◌⊎◌, ◌≤◌, ℕ, List, [], ◌∷◌, length, map, Option, Some, None, All, IfSome, IfOk, IfErr, Result, Ok, Err, refl, sym, ap, ◌∙◌, inl, inr, subst}
+use Rattle.std.proofs.Common.{◌≡◌, ◌⊎◌, ◌≤◌, ℕ, List, [], ◌∷◌, length, map, Option, Some, None, All, IfSome, IfOk, IfErr, Result, Ok, Err, refl, sym, ap, ◌∙◌, inl, inr, subst, arith}
 use Rattle.std.specs.Global.{Vec}
-use Rattle.std.specs.Option.{ForSome}
 use Rattle.std.proofs.lemmas.List.Elements.{All-cons, All-nil}
 use Rattle.box_cert.specs.Spelling.{Content}
 use Rattle.box_specs.specs.declared.certificate.Claim.{Claim}
@@ -19,7 +18,7 @@ use Rattle.job_file.specs.declared.top.BatchRule.TheVariants.{Without}
 use Rattle.shade_report.specs.Outcomes.{GoesWith}
 use Rattle.dye_run.specs.Check.{valid_from}
 use Rattle.dye_run.specs.Endings.{IsSearchable}
-use Rattle.dye_run.specs.Files.{FitsFiles}
+use Rattle.dye_run.specs.Files.{FitsFiles, IsShort}
 use Rattle.dye_run.specs.Inputs.{table_from}
 use Rattle.dye_run.specs.Jobs.{JobTables, job_from, job_tables_from, resolved_from, unless_broken, weights_after}
 use Rattle.dye_run.specs.Judging.{Gives, stop_outcome}
@@ -28,7 +27,6 @@ use Rattle.dye_run.specs.Answers.{Report}
 use Rattle.dye_run.specs.Demo.{matched_cost, summary_text}
 use Rattle.dye_run.specs.Search.{conclusion_of, result_for}
 use Rattle.dye_run.specs.Views.{bytes_view}
-use Rattle.dye_run.specs.declared.jobs.FilesRead.{FilesRead}
 use Rattle.dye_run.specs.declared.stop.Stop.{Stop}
 use Rattle.dye_run.proofs.Headline.{is_valid}
 use Rattle.spectral_tables.specs.declared.records.TheConstants.{TABLE_LIMIT}
@@ -44,7 +42,7 @@ module _ (drawn text curves first second : List ℕ) (a : IsAccepted drawn text 
   unfolding job_from
   job_accepted name = ap (unless_broken name) a.job_read
 
-  pub tables_accepted : job_tables_from (job_values (drawn_dyes drawn)) (Some curves) (Some first ∷ Some second ∷ []) ≡ Ok (record { book = job_book drawn; weights = both_weights })
+  pub tables_accepted : job_tables_from (job_values (drawn_dyes drawn)) (Some curves ∷ Some first ∷ Some second ∷ []) ≡ Ok (record { book = job_book drawn; weights = both_weights })
   unfolding job_tables_from weights_after table_from
   tables_accepted = rw (a.curves_read, a.first_read, a.second_read) refl
 
@@ -61,13 +59,13 @@ module _ (drawn text curves first second : List ℕ) (a : IsAccepted drawn text 
   pub job_is : (slice : List ℕ) → slice ≡ text → (name : List ℕ) (j : Values) → job_from Without name (Some slice) ≡ Ok j → j ≡ job_values (drawn_dyes drawn)
   job_is slice is name j e = ok_same (job_from Without name (Some slice)) j (job_values (drawn_dyes drawn)) e (job_from_slice slice is name)
 
-  pub tables_are : (j : Values) (bytes_read : Option (List ℕ)) (others : List (Option (List ℕ))) → j ≡ job_values (drawn_dyes drawn) → bytes_read ≡ Some curves → others ≡ Some first ∷ Some second ∷ []
-      → job_tables_from j bytes_read others ≡ Ok (record { book = job_book drawn; weights = both_weights })
-  tables_are j bytes_read others is c w = (λ i. job_tables_from (is i) (c i) (w i)) ∙ tables_accepted drawn text curves first second a
+  pub tables_are : (j : Values) (bytes_read : List (Option (List ℕ))) → j ≡ job_values (drawn_dyes drawn) → bytes_read ≡ Some curves ∷ Some first ∷ Some second ∷ []
+      → job_tables_from j bytes_read ≡ Ok (record { book = job_book drawn; weights = both_weights })
+  tables_are j bytes_read is b = (λ i. job_tables_from (is i) (b i)) ∙ tables_accepted drawn text curves first second a
 
-  pub tables_view_is : (j : Values) (bytes_read : Option (List ℕ)) (others : List (Option (List ℕ))) (t : JobTables) → j ≡ job_values (drawn_dyes drawn) → bytes_read ≡ Some curves → others ≡ Some first ∷ Some second ∷ []
-      → job_tables_from j bytes_read others ≡ Ok t → t ≡ record { book = job_book drawn; weights = both_weights }
-  tables_view_is j bytes_read others t is c w e = ok_same (job_tables_from j bytes_read others) t (record { book = job_book drawn; weights = both_weights }) e (tables_are j bytes_read others is c w)
+  pub tables_view_is : (j : Values) (bytes_read : List (Option (List ℕ))) (t : JobTables) → j ≡ job_values (drawn_dyes drawn) → bytes_read ≡ Some curves ∷ Some first ∷ Some second ∷ []
+      → job_tables_from j bytes_read ≡ Ok t → t ≡ record { book = job_book drawn; weights = both_weights }
+  tables_view_is j bytes_read t is b e = ok_same (job_tables_from j bytes_read) t (record { book = job_book drawn; weights = both_weights }) e (tables_are j bytes_read is b)
 
   pub resolves : (name : List ℕ) (j : Values) (t : JobTables) → j ≡ job_values (drawn_dyes drawn) → t ≡ record { book = job_book drawn; weights = both_weights } → resolved_from name j t ≡ Ok (resolved_of drawn)
   resolves name j t is e = (λ i. resolved_from name (is i) (e i)) ∙ job_resolves drawn text curves first second a name
@@ -92,34 +90,29 @@ gives_no_refusal view (Err why) step x e gives = not_refused (stop_outcome why) 
 
 -- ---- the files of a generated job fit it
 
-short_curves : (bytes_read : Option (Vec ℕ)) (text : List ℕ) → bytes_view bytes_read ≡ Some text → length text ≤ 1000000 → ForSome bytes_read (λ bytes. length bytes.items ≤ TABLE_LIMIT)
-short_curves bytes_read text e h = λ x is.
-    let both : bytes_view (Some x) ≡ Some text = ap bytes_view (sym is) ∙ e in
-    let same : x.items ≡ text = cc in
-    subst (λ t. length t ≤ TABLE_LIMIT) (sym same) h
-
 short_bytes_read : (bytes_read : Option (Vec ℕ)) (text : List ℕ) → bytes_view bytes_read ≡ Some text → length text ≤ 1000000 → IfSome bytes_read (λ bytes. length bytes.items ≤ TABLE_LIMIT)
 short_bytes_read (Some b) text e h = let same : b.items ≡ text = cc in subst (λ t. length t ≤ TABLE_LIMIT) (sym same) h
 short_bytes_read None text e h = tt
 
-abbrev IsShort : Option (Vec ℕ) → Type 0
-IsShort c = IfSome c (λ bytes. length bytes.items ≤ TABLE_LIMIT)
+three_files_read : (bytes_read : List (Option (Vec ℕ))) (curves first second : List ℕ) → map bytes_view bytes_read ≡ Some curves ∷ Some first ∷ Some second ∷ [] → length curves ≤ 1000000 → length first ≤ 1000000 → length second ≤ 1000000
+    → (length bytes_read ≡ 3) × All IsShort bytes_read
+three_files_read [] curves first second e h k l = absurd (let f : [] ≡ Some curves ∷ Some first ∷ Some second ∷ [] = e in cc)
+three_files_read (a ∷ []) curves first second e h k l = absurd (let f : bytes_view a ∷ [] ≡ Some curves ∷ Some first ∷ Some second ∷ [] = e in cc)
+three_files_read (a ∷ (b ∷ [])) curves first second e h k l = absurd (let f : bytes_view a ∷ (bytes_view b ∷ []) ≡ Some curves ∷ Some first ∷ Some second ∷ [] = e in cc)
+three_files_read (a ∷ (b ∷ (c ∷ []))) curves first second e h k l =
+    let one : bytes_view a ≡ Some curves = cc in
+    let two : bytes_view b ≡ Some first = cc in
+    let three : bytes_view c ≡ Some second = cc in
+    (refl, All-cons IsShort a (b ∷ (c ∷ [])) (short_bytes_read a curves one h) (All-cons IsShort b (c ∷ []) (short_bytes_read b first two k) (All-cons IsShort c [] (short_bytes_read c second three l) (All-nil IsShort))))
+three_files_read (a ∷ (b ∷ (c ∷ (d ∷ rest)))) curves first second e h k l = absurd (let f : bytes_view a ∷ (bytes_view b ∷ (bytes_view c ∷ (bytes_view d ∷ map bytes_view rest))) ≡ Some curves ∷ Some first ∷ Some second ∷ [] = e in cc)
 
-two_files_read : (bytes_read : List (Option (Vec ℕ))) (first second : List ℕ) → map bytes_view bytes_read ≡ Some first ∷ Some second ∷ [] → length first ≤ 1000000 → length second ≤ 1000000 → (length bytes_read ≡ 2) × All IsShort bytes_read
-two_files_read [] first second e h k = absurd (let f : [] ≡ Some first ∷ Some second ∷ [] = e in cc)
-two_files_read (a ∷ []) first second e h k = absurd (let f : bytes_view a ∷ [] ≡ Some first ∷ Some second ∷ [] = e in cc)
-two_files_read (a ∷ (b ∷ [])) first second e h k =
-    let one : bytes_view a ≡ Some first = cc in
-    let two : bytes_view b ≡ Some second = cc in
-    (refl, All-cons IsShort a (b ∷ []) (short_bytes_read a first one h) (All-cons IsShort b [] (short_bytes_read b second two k) (All-nil IsShort)))
-two_files_read (a ∷ (b ∷ (c ∷ rest))) first second e h k = absurd (let f : bytes_view a ∷ (bytes_view b ∷ (bytes_view c ∷ map bytes_view rest)) ≡ Some first ∷ Some second ∷ [] = e in cc)
-
-pub generated_fit : (drawn text curves first second : List ℕ) → IsAccepted drawn text curves first second → (job : Job) (bytes_read : FilesRead) → job_view job ≡ job_values (drawn_dyes drawn) → bytes_view bytes_read.curves ≡ Some curves
-    → map bytes_view bytes_read.weights.items ≡ Some first ∷ Some second ∷ [] → FitsFiles (length job.light.items) bytes_read
-generated_fit drawn text curves first second a job bytes_read is c w =
-    let two = two_files_read bytes_read.weights.items first second w a.first_short a.second_short in
+pub generated_fit : (drawn text curves first second : List ℕ) → IsAccepted drawn text curves first second → (job : Job) (bytes_read : List (Option (Vec ℕ))) → job_view job ≡ job_values (drawn_dyes drawn)
+    → map bytes_view bytes_read ≡ Some curves ∷ Some first ∷ Some second ∷ [] → FitsFiles (length job.light.items) bytes_read
+generated_fit drawn text curves first second a job bytes_read is b =
+    let three = three_files_read bytes_read curves first second b a.curves_short a.first_short a.second_short in
     let lights : length job.light.items ≡ 2 = ap (λ j. length j.light) is in
-    record { curves = short_curves bytes_read.curves curves c a.curves_short; count = two.0 ∙ sym lights; short = two.1 }
+    let count = three.0 in
+    record { count = omega (arith, count, lights); short = three.1 }
 
 -- ---- the certificate of a search is not refused
 

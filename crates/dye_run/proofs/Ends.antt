@@ -10,7 +10,7 @@ use Rattle.shade_report.specs.Refusals.{refusal_text}
 use Rattle.shade_report.specs.declared.refusal.Refusal.{Refusal}
 use Rattle.shade_report.specs.declared.refusal.Refusal.TheVariants as why
 use Rattle.dye_run.specs.Answers.{Report}
-use Rattle.dye_run.specs.Asking.{Answers, Asking, IsDue, MayTake, ReadsDue}
+use Rattle.dye_run.specs.Asking.{Asking}
 use Rattle.dye_run.specs.Commands.{asking_for, written_by}
 use Rattle.dye_run.specs.Delivery.{Delivers, IsWritten, Prints}
 use Rattle.dye_run.specs.Delivery as delivery
@@ -18,6 +18,7 @@ use Rattle.dye_run.specs.Endings.{ArePromised, Changes, ChangesFiles, Ended, Fai
 use Rattle.dye_run.specs.Endings as ended
 use Rattle.dye_run.specs.Forms.{Form}
 use Rattle.dye_run.specs.Outcome.{Outcome, conclusion_status, not_written, refusal_outcome, reported, status_of, text_of, written_of}
+use Rattle.dye_run.specs.Reading.{Gets, IsDue, MayTake, ReadsDue}
 
 zero_more : (n : ℕ) → n ≡ n + 0
 zero_more n = omega arith
@@ -93,7 +94,7 @@ ended_by form before after o result reached none same (delivery.cut taken counte
 -- ---- a report, with its file
 
 -- a report is over the bytes that were read
-reported_answers : (asking : Asking) (before after : ShelfView) (r : Report) → Reaches asking before after (reported r) → Answers before.contents asking (reported r)
+reported_answers : (asking : Asking) (before after : ShelfView) (r : Report) → Reaches asking before after (reported r) → Gets before.contents asking (reported r)
 reported_answers asking before after r (inl w) = w
 reported_answers asking before after r (inr u) = let e = u.2 in cc
 
@@ -117,7 +118,7 @@ status_by : (text : List ℕ) (result : ℕ) (before after : SinkView) → Print
 status_by text result before after (delivery.whole taken counted r) = r
 status_by text result before after (delivery.cut taken counted r unpromised) = r
 
-module _ (form : Option Form) (before after : World) (mid : ShelfView) (r : Report) (names : List ℕ → Type 0) (result : ℕ) (answers : Answers before.shelf.contents (asking_for form) (reported r)) (effect : OnlyReads names before.shelf mid) (searched : IfSome r.recipes IsSearchable) where
+module _ (form : Option Form) (before after : World) (mid : ShelfView) (r : Report) (names : List ℕ → Type 0) (result : ℕ) (answers : Gets before.shelf.contents (asking_for form) (reported r)) (effect : OnlyReads names before.shelf mid) (searched : IfSome r.recipes IsSearchable) where
   ended_printed : IsWritten r.written mid after.shelf → Prints r.text (conclusion_status r.conclusion) before.sink after.sink result → Ended form before after result
   ended_printed w (delivery.whole taken counted e) =
       ended.spoke (reported r) (inl answers) e (record { taken = taken; counted = counted; contents = written_files r.written before.shelf mid after.shelf effect.contents w }) searched

@@ -1,10 +1,9 @@
 -- What a search and a check claim about the recipes of a job.
-use Rattle.std.proofs.Common.{◌≡◌, ◌≤◌, ℕ, List, [], ◌∷◌, length, Option, Some, None, All, IfSome, IsSomeAnd, Bool, true, false, if◌then◌else◌, nat_le, option_map, Result, Ok, Err, refl, sym, ap, ◌∙◌, subst, inl, inr, arith}
+use Rattle.std.proofs.Common.{◌≡◌, ◌≤◌, ℕ, List, [], ◌∷◌, length, map, Option, Some, None, All, IfSome, IsSomeAnd, Bool, true, false, if◌then◌else◌, nat_le, option_map, Result, Ok, Err, refl, sym, ap, ◌∙◌, subst, inl, inr, arith}
 use Rattle.std.specs.Io.KnownBytes.{append_known}
-use Rattle.std.specs.List.{AllZip}
 use Rattle.std.specs.Str.{bytes_eq}
 use Rattle.std.proofs.lemmas.Bool.Decides.{nat_tests}
-use Rattle.std.proofs.lemmas.List.Elements.{All-head, All-map, All-tail}
+use Rattle.std.proofs.lemmas.List.Elements.{All-cons, All-head, All-map, All-tail}
 use Rattle.std.proofs.lemmas.Slice.Eq.{bytes_eq-Decides}
 use Rattle.box_cert.specs.Spelling.{Content, cert_text}
 use Rattle.box_cert.specs.Text.{cert_of}
@@ -29,7 +28,7 @@ use Rattle.recipe_judge.specs.Recipes.{recipe_land}
 use Rattle.shade_report.specs.Outcomes.{accepted_text}
 use Rattle.shelf_io.specs.Contents.{Contents, write_bytes}
 use Rattle.dye_run.specs.Answers.{Report}
-use Rattle.dye_run.specs.Asking.{Answers, answers}
+use Rattle.dye_run.specs.Asking.{reports_on}
 use Rattle.dye_run.specs.Check.{accepted_report, cert_from, check_report, check_rule, unless_failing, unless_misspelled, valid_from}
 use Rattle.dye_run.specs.Commands.{Task, asking_by, asking_of, confirms, finds, summarises, task_of}
 use Rattle.dye_run.specs.Demo.{demo_job, demo_report, summary_text}
@@ -37,15 +36,19 @@ use Rattle.dye_run.specs.Due.{CanBeRead, up_to_limit}
 use Rattle.dye_run.specs.Endings.{IsSearchable, Leaves, World, with_written}
 use Rattle.dye_run.specs.Forms.{check, form_of}
 use Rattle.dye_run.specs.Headline.{Confirms, Finds, IsJobOfFiles, IsSearchStatus, SaysOfRecipes, Summarises, TellsExactly}
-use Rattle.dye_run.specs.Jobs.{asks_cert, asks_job, job_from, light_files, unless_broken}
+use Rattle.dye_run.specs.Inputs.{◌>>=◌, due_table}
+use Rattle.dye_run.specs.Jobs.{JobRead, due_cert, job_files, job_from, light_files, reads_job, text_from, unless_broken}
 use Rattle.dye_run.specs.Outcome.{conclusion_status, grammar, invalid, outcome_of, reported, too_long}
 use Rattle.dye_run.specs.Outcome as outcome
+use Rattle.dye_run.specs.Reading.{DueFile, Gets, each_file, makes}
 use Rattle.dye_run.specs.Search.{conclusion_of, result_for, result_report, search_report}
 use Rattle.dye_run.specs.Statuses as table
 use Rattle.dye_run.specs.Words.{CertWords}
 use Rattle.dye_run.proofs.CertTrees.{one_tree}
-use Rattle.dye_run.proofs.FilesKnown.{cert_answers, job_bytes, job_cert_read, ok_next, result_from}
+use Rattle.dye_run.proofs.FilesKnown.{ok_next, reported_on, result_from}
 use Rattle.dye_run.proofs.FormWords.{AreCertWords, KeepsWords, ends_as_cert, form_keeps, mapped}
+use Rattle.dye_run.proofs.JobsRead.{job_again, job_alone, pieces_of, text_read}
+use Rattle.dye_run.proofs.Readings.{got_then, then_got}
 use Rattle.dye_run.proofs.ShowLaws.{differences_enclose, recipe_evaluated}
 use Rattle.job_laws.proofs.Accepted.{files_are_no_certs}
 use Rattle.job_laws.proofs.Either.{accepts_either}
@@ -84,6 +87,10 @@ files_kept rule name (Some bytes) j e =
     let no = files_are_no_certs rule bytes j is in
     (ap (unless_broken name) (accepts_either rule bytes j is), no.0, All-map IsNoCert (λ l. l.weights) j.light no.1)
 
+some_text : (file : DueFile) (text : List ℕ) → text_from (Some file) (Some text) ≡ Ok text
+unfolding text_from
+some_text file text = refl
+
 module _ (cert text : List ℕ) (before after : Option Contents) (written : after ≡ option_map (write_bytes cert text) before) where
   -- where the files are known, the bytes read are still those of the file with another name
   still_known : (name : List ℕ) (limit : ℕ) (bytes_read : Option (List ℕ)) → bytes_eq name cert ≡ false → (old : Option Contents) → IfSome old (λ c. IsSomeAnd (c.file name) (λ bytes. bytes_read ≡ up_to_limit limit bytes))
@@ -111,30 +118,37 @@ module _ (cert text : List ℕ) (before after : Option Contents) (written : afte
     known = subst (λ c. IfSome c (λ c. IsSomeAnd (c.file cert) (λ bytes. Some text ≡ up_to_limit CERT_LIMIT bytes))) (sym written) (cert_known CERT_LIMIT (short_is_whole CERT_LIMIT text short) before);
   }
 
-  all_still_read : (names : List (List ℕ)) (bytes_read : List (Option (List ℕ))) → ends_as_cert cert ≡ true → All IsNoCert names → AllZip (λ file c. CanBeRead before file TABLE_LIMIT c) names bytes_read → AllZip (λ file c. CanBeRead after file TABLE_LIMIT c) names bytes_read
-  all_still_read [] [] is none all = all
-  all_still_read [] (c ∷ bytes_read) is none all = absurd all
-  all_still_read (name ∷ names) [] is none all = absurd all
-  all_still_read (name ∷ names) (c ∷ bytes_read) is none all =
-      (still_read name TABLE_LIMIT c (other_name name cert (All-head IsNoCert name names none) is) all.0, all_still_read names bytes_read is (All-tail IsNoCert name names none) all.1)
+  all_still_read : (names : List (List ℕ)) (bytes_read : List (Option (List ℕ))) → ends_as_cert cert ≡ true → All IsNoCert names → Gets before (each_file (map due_table names)) bytes_read → Gets after (each_file (map due_table names)) bytes_read
+  unfolding each_file
+  all_still_read [] bytes_read is none w = w
+  all_still_read (name ∷ names) bytes_read is none (first, can, w) =
+      let r = then_got before (each_file (map due_table names)) (λ others. makes (first ∷ others)) bytes_read w in (
+        first,
+        still_read name TABLE_LIMIT first (other_name name cert (All-head IsNoCert name names none) is) can,
+        got_then after (each_file (map due_table names)) (λ others. makes (first ∷ others)) r.0 bytes_read (all_still_read names r.0 is (All-tail IsNoCert name names none) r.1) r.2,
+      )
 
-  -- a job of the files is still one by the rule of a check
-  job_still_read : (rule : BatchRule) (name : List ℕ) (r : ResolvedJob) → IsNoCert name → ends_as_cert cert ≡ true → IsJobOfFiles before rule name r → IsJobOfFiles after Either name r
-  job_still_read rule name r none is bytes_read =
-      let files = files_kept rule name bytes_read.job_bytes bytes_read.values bytes_read.accepted in
-      record {
-        job_bytes = bytes_read.job_bytes;
-        values = bytes_read.values;
-        curves_bytes = bytes_read.curves_bytes;
-        weights_bytes = bytes_read.weights_bytes;
-        tables = bytes_read.tables;
-        job = still_read name JOB_LIMIT bytes_read.job_bytes (other_name name cert none is) bytes_read.job;
-        curves = still_read bytes_read.values.head.curves TABLE_LIMIT bytes_read.curves_bytes (other_name bytes_read.values.head.curves cert files.1 is) bytes_read.curves;
-        weights = all_still_read (light_files bytes_read.values) bytes_read.weights_bytes is files.2 bytes_read.weights;
+  -- a job of the files can still be read, by the rule of a check and with the certificate
+  job_still_read : (rule : BatchRule) (name : List ℕ) (r : ResolvedJob) → IsNoCert name → ends_as_cert cert ≡ true → length text ≤ CERT_LIMIT → IsJobOfFiles before rule name r
+      → Gets after (reads_job Either name (Some (due_cert cert))) (Ok (record { job = r; text = text }))
+  job_still_read rule name r none is short w =
+      let p = pieces_of before rule name None (record { job = r; text = [] }) w in
+      let files = files_kept rule name p.job_bytes p.values p.accepted in
+      job_again after Either name (Some (due_cert cert)) (record { job = r; text = text })
+      (record {
+        job_bytes = p.job_bytes;
+        values = p.values;
+        files = p.files;
+        other_bytes = Some text;
+        tables = p.tables;
+        job_got = still_read name JOB_LIMIT p.job_bytes (other_name name cert none is) p.job_got;
         accepted = files.0;
-        read = bytes_read.read;
-        resolved = bytes_read.resolved;
-      }
+        files_got = all_still_read (job_files p.values) p.files is (All-cons IsNoCert p.values.head.curves (light_files p.values) files.1 files.2) p.files_got;
+        other_got = (Some text, cert_can_be_read short, refl);
+        tables_made = p.tables_made;
+        text_made = some_text (due_cert cert) text;
+        resolved = p.resolved;
+      })
 
 -- ---- the check of a certificate that a search wrote
 
@@ -172,15 +186,22 @@ exact_by l budget (Floor cost) status h e = record {
   floor = λ few. sym e;
 }
 
+-- a check of a job and a text that can be read
+report_made : (contents : Option Contents) (words : CertWords) (r : ResolvedJob) (text : List ℕ) (report : Report) → Gets contents (reads_job check_rule words.job (Some (due_cert words.cert))) (Ok (record { job = r; text = text })) → check_report r text ≡ Ok report
+    → Gets contents (asking_of (check words)) (reported report)
+report_made contents words r text report made is =
+    got_then contents (reads_job check_rule words.job (Some (due_cert words.cert))) (λ made. makes (outcome_of (made >>= (λ (read : JobRead). check_report read.job read.text)))) (Ok (record { job = r; text = text })) (reported report) made (sym (ap outcome_of is))
+
 module _ (rule : BatchRule) (words : CertWords) (kept : AreCertWords words) (before after : World) (status : ℕ) (report : Report) where
-  pub found : Answers before.shelf.contents (asks_job rule words.job (search_report words.cert)) (reported report) → conclusion_status report.conclusion ≡ status → Leaves before after report.text report.written → IfSome report.recipes IsSearchable
+  pub found : Gets before.shelf.contents (reports_on (reads_job rule words.job None) (λ read. search_report words.cert read.job)) (reported report) → conclusion_status report.conclusion ≡ status → Leaves before after report.text report.written → IfSome report.recipes IsSearchable
       → Finds rule words before after status
   unfolding search_report
   found w ends leaves searched =
-      let bytes_read = job_bytes before.shelf.contents rule words.job (search_report words.cert) report w in
-      let r = bytes_read.0 in
+      let made = reported_on before.shelf.contents (reads_job rule words.job None) (λ read. search_report words.cert read.job) report w in
+      let r = made.0.job in
+      let of_files : IsJobOfFiles before.shelf.contents rule words.job r = job_alone before.shelf.contents rule words.job None made.0 made.1 in
       let s = result_for r in
-      let is : result_report words.cert r s ≡ report = (let h : Ok (result_report words.cert r s) ≡ Ok report = bytes_read.2 in cc) in
+      let is : result_report words.cert r s ≡ report = (let h : Ok (result_report words.cert r s) ≡ Ok report = made.2 in cc) in
       let h : IsSearchable r = subst (λ x. IfSome x.recipes IsSearchable) (sym is) searched in
       let text = cert_text (content_of s) in
       let written : after.shelf.contents ≡ option_map (write_bytes words.cert text) before.shelf.contents = leaves.contents ∙ ap (λ x. with_written x.written before.shelf.contents) (sym is) in
@@ -191,7 +212,7 @@ module _ (rule : BatchRule) (words : CertWords) (kept : AreCertWords words) (bef
         listed = s.listed;
         lines = s.lines;
         boxes = s.boxes;
-        from_files = bytes_read.1;
+        from_files = of_files;
         ends = ap (λ x. conclusion_status x.conclusion) is ∙ ends;
         exact = exact_by (recipe_land r) r.job.head.budget s.claim status (result_is_first (recipe_land r) h.lawful r.job.head.budget) (ap (λ x. conclusion_status x.conclusion) is ∙ ends);
         holds = result_is_first (recipe_land r) h.lawful r.job.head.budget;
@@ -202,9 +223,8 @@ module _ (rule : BatchRule) (words : CertWords) (kept : AreCertWords words) (bef
         printed = leaves.taken ∙ ap (λ x. append_known before.sink.taken x.text) (sym is);
         written = written;
         checked = λ c e. result_from after.shelf.contents c (asking_of (check words)) (reported (accepted_report r s.claim)) e
-            (cert_answers after.shelf.contents Either words.job words.cert text check_report (accepted_report r s.claim) r
-            (job_still_read words.cert text before.shelf.contents after.shelf.contents written rule words.job r kept.job kept.cert bytes_read.1)
-            (cert_can_be_read words.cert text before.shelf.contents after.shelf.contents written short) (check_accepts r h));
+            (report_made after.shelf.contents words r text (accepted_report r s.claim)
+            (job_still_read words.cert text before.shelf.contents after.shelf.contents written rule words.job r kept.job kept.cert short of_files) (check_accepts r h));
       }
 
 -- ---- a check
@@ -226,25 +246,27 @@ unfolding valid_from
 holds_from r content valid e = holding content valid (first_failure (recipe_land r) content.claim content.listed content.lines) e
 
 module _ (words : CertWords) (before after : World) (report : Report) where
-  pub confirmed : Answers before.shelf.contents (asks_cert check_rule words.job words.cert check_report) (reported report) → Leaves before after report.text report.written → IfSome report.recipes IsSearchable → Confirms words before after
+  pub confirmed : Gets before.shelf.contents (reports_on (reads_job check_rule words.job (Some (due_cert words.cert))) (λ read. check_report read.job read.text)) (reported report) → Leaves before after report.text report.written → IfSome report.recipes IsSearchable → Confirms words before after
   unfolding check_report
   confirmed w leaves searched =
-      let bytes_read = job_cert_read before.shelf.contents check_rule words.job words.cert check_report report w in
-      let r = bytes_read.0 in
-      let read = ok_next (cert_from (length (recipe_land r).top.lo) bytes_read.1) _ report bytes_read.4 in
+      let other = due_cert words.cert in
+      let made = reported_on before.shelf.contents (reads_job check_rule words.job (Some other)) (λ read. check_report read.job read.text) report w in
+      let r = made.0.job in
+      let text = made.0.text in
+      let read = ok_next (cert_from (length (recipe_land r).top.lo) text) _ report made.2 in
       let content = read.0 in
       let checked = ok_next (valid_from r content) _ report read.2 in
-      let spells = spells_from (length (recipe_land r).top.lo) bytes_read.1 content read.1 in
+      let spells = spells_from (length (recipe_land r).top.lo) text content read.1 in
       let holds = holds_from r content checked.0 checked.1 in
       let is : accepted_report r checked.0.claim ≡ report = (let h : Ok (accepted_report r checked.0.claim) ≡ Ok report = checked.2 in cc) in
       let h : IsSearchable r = subst (λ x. IfSome x.recipes IsSearchable) (sym is) searched in
-      let whole = one_tree (length (recipe_land r).top.lo) bytes_read.1 content spells in
+      let whole = one_tree (length (recipe_land r).top.lo) text content spells in
       record {
         job = r;
         cert = content;
-        text = bytes_read.1;
-        from_files = bytes_read.2;
-        text_from_file = bytes_read.3;
+        text = text;
+        from_files = job_alone before.shelf.contents check_rule words.job (Some other) made.0 made.1;
+        text_from_file = text_read before.shelf.contents check_rule words.job other made.0 made.1;
         spells = spells;
         valid = valid_if (recipe_land r) h.lawful.top content.claim content.listed content.lines whole holds.0;
         means = means (recipe_land r) content.claim content.listed content.lines h.lawful whole holds.0;
@@ -254,7 +276,7 @@ module _ (words : CertWords) (before after : World) (report : Report) where
 -- ---- a summary
 
 module _ (number : ℕ) (before after : World) (status : ℕ) (report : Report) where
-  pub summarised : Answers before.shelf.contents (answers (outcome_of (demo_report number (demo_job number)))) (reported report) → conclusion_status report.conclusion ≡ status → Leaves before after report.text report.written → IfSome report.recipes IsSearchable
+  pub summarised : Gets before.shelf.contents (makes (outcome_of (demo_report number (demo_job number)))) (reported report) → conclusion_status report.conclusion ≡ status → Leaves before after report.text report.written → IfSome report.recipes IsSearchable
       → Summarises number before after status
   unfolding demo_report
   summarised w ends leaves searched =
@@ -291,12 +313,12 @@ module _ (ws : List (List ℕ)) (before after : World) (status : ℕ) (tells : t
 
   -- the words have the form of a task
   of_task : (t : Task) → option_map task_of (form_of ws) ≡ Some t → table.kind_of status ≡ table.report
-      → (r : Report) × Answers before.shelf.contents (asking_by t) (reported r) × (conclusion_status r.conclusion ≡ status) × Leaves before after r.text r.written × IfSome r.recipes IsSearchable × KeepsWords t
+      → (r : Report) × Gets before.shelf.contents (asking_by t) (reported r) × (conclusion_status r.conclusion ≡ status) × Leaves before after r.text r.written × IfSome r.recipes IsSearchable × KeepsWords t
   of_task t e h =
       let m = mapped task_of (form_of ws) t e in
       let r = subst (λ f. table.IsReport f before after status) m.1 (report_of h) in (
         r.report,
-        subst (λ t. Answers before.shelf.contents (asking_by t) (reported r.report)) m.2 r.answers,
+        subst (λ t. Gets before.shelf.contents (asking_by t) (reported r.report)) m.2 r.answers,
         r.status,
         r.leaves,
         r.searched,

@@ -1,30 +1,23 @@
 -- The weights of a job's lights, one after the other.
-use Rattle.std.proofs.Common.{◌≡◌, ◌+◌, ◌<◌, ◌≤◌, ℕ, List, [], ◌∷◌, ◌++◌, length, drop, get_or, map, Option, Some, None, IfSome, Result, Ok, Err, sym, ap, ◌∙◌, add-one, arith}
+use Rattle.std.proofs.Common.{◌≡◌, ◌+◌, ◌<◌, ◌≤◌, ℕ, List, [], ◌∷◌, ◌++◌, length, drop, take, get_or, map, Option, Some, None, IfSome, Result, Ok, Err, sym, ap, ◌∙◌, add-one, arith}
 use Rattle.std.specs.Global.{Vec}
-use Rattle.std.proofs.Math.Seq.{drop-cons}
-use Rattle.std.proofs.lemmas.List.{drop_all, get_or-map}
+use Rattle.std.proofs.Math.Seq.{drop-cons, take-suc}
+use Rattle.std.proofs.lemmas.List.{drop_all, map-append}
 use Rattle.job_file.specs.declared.light.JobLight.{JobLight}
 use Rattle.spectral_tables.specs.CurveBook.{Book, IsBook, wave_count}
 use Rattle.spectral_tables.specs.declared.grid.WaveGrid.TheVariants.{Ten}
 use Rattle.spectral_tables.specs.WeightFile.{weight_table_of}
 use Rattle.spectral_tables.specs.WeightTable.{IsWeightTable, WeightTable}
-use Rattle.dye_run.specs.Inputs.{◌>>=◌, table_from}
+use Rattle.dye_run.specs.Inputs.{◌>>=◌, due_table, table_from}
 use Rattle.dye_run.specs.Jobs.{weights_after}
 use Rattle.dye_run.specs.Outcome.{Fault, Outcome, refused}
-use Rattle.dye_run.specs.Views.{bytes_view}
-
--- the bytes of a read up to a limit
-pub short_of : (limit : ℕ) (bytes_read : Option (Vec ℕ)) → IfSome (bytes_view bytes_read) (λ bytes. length bytes ≤ limit) → IfSome bytes_read (λ bytes. length bytes.items ≤ limit)
-short_of limit (Some bytes) h = h
-short_of limit None h = tt
+use Rattle.dye_run.specs.Reading as reading
+use Rattle.dye_run.specs.Views.{bytes_view, due_view}
+use Rattle.dye_run.specs.declared.inputs.DueFile.{DueFile}
 
 -- the items from an index on are the item at the index and those after it
 pub items_from : {A : Type 0} (xs : List A) (k : ℕ) (x : A) → k < length xs → x ≡ get_or xs k x → drop k xs ≡ x ∷ drop (k + 1) xs
 items_from xs k x h is = drop-cons xs k x h ∙ (λ i. sym is i ∷ drop (sym (add-one k) i) xs)
-
--- the file of the light at an index
-pub file_at : (lights : List JobLight) (k : ℕ) (light : JobLight) (name : List ℕ) → k < length lights → light ≡ get_or lights k light → name ≡ light.weights → name ≡ get_or (map (λ l. l.weights) lights) k []
-file_at lights k light name h is e = e ∙ ap (λ l. l.weights) is ∙ sym (get_or-map (λ l. l.weights) lights k light [] h)
 
 module _ (lights : List JobLight) (bytes_read : List (Option (Vec ℕ))) (k : ℕ) (before : List WeightTable) (light : JobLight) (first : Option (Vec ℕ)) (hl : k < length lights) (hc : k < length bytes_read) (is_light : light ≡ get_or lights k light) (is_first : first ≡ get_or bytes_read k first) where
   weights_next : weights_after before (map (λ l. l.weights) (drop k lights)) (map bytes_view (drop k bytes_read))
@@ -54,3 +47,14 @@ pub weights_all : (lights : List JobLight) (bytes_read : List (Option (List ℕ)
     → weights_after before (map (λ l. l.weights) (drop k lights)) bytes_read ≡ whole → whole ≡ Ok before
 unfolding weights_after
 weights_all lights bytes_read k before h so_far = sym so_far ∙ ap (λ ls. weights_after before (map (λ l. l.weights) ls) bytes_read) (drop_all k lights h)
+
+-- one more light's file is due
+pub files_more : (lights : List JobLight) (k : ℕ) (light : JobLight) (first : reading.DueFile) (files more : List DueFile) (file : DueFile) → k < length lights → light ≡ get_or lights k light
+    → map due_view files ≡ first ∷ map due_table (map (λ l. l.weights) (take k lights)) → more ≡ files ++ file ∷ [] → due_view file ≡ due_table light.weights
+    → map due_view more ≡ first ∷ map due_table (map (λ l. l.weights) (take (k + 1) lights))
+files_more lights k light first files more file h is so_far grown new =
+    let names : List JobLight → List (List ℕ) = map (λ l. l.weights) in
+    let longer : take k lights ++ light ∷ [] ≡ take (k + 1) lights = (λ i. take k lights ++ is i ∷ []) ∙ sym (take-suc lights k light h) ∙ (λ i. take (sym (add-one k) i) lights) in
+    let tail : map due_table (names (take k lights)) ++ due_table light.weights ∷ [] ≡ map due_table (names (take (k + 1) lights)) =
+    sym (ap (map due_table) (map-append (λ l. l.weights) (take k lights) (light ∷ [])) ∙ map-append due_table (names (take k lights)) (light.weights ∷ [])) ∙ ap (λ ls. map due_table (names ls)) longer in
+    ap (map due_view) grown ∙ map-append due_view files (file ∷ []) ∙ (λ i. so_far i ++ new i ∷ []) ∙ ap (λ fs. first ∷ fs) tail

@@ -3,22 +3,25 @@ use Rattle.std.proofs.Common.{◌≡◌, ◌⊎◌, ℕ, List, length, Option, S
 use Rattle.shelf_io.specs.Contents.{Contents}
 use Rattle.shelf_io.specs.Counts.{IsRaised}
 use Rattle.shelf_io.specs.View.{ShelfView}
-use Rattle.spectral_tables.specs.declared.grid.WaveGrid.TheVariants.{Ten}
-use Rattle.spectral_tables.specs.CurveFile.{curve_table_of}
 use Rattle.dye_run.specs.Answers.{Report}
 use Rattle.job_file.specs.declared.top.BatchRule.TheVariants.{With, Without}
-use Rattle.dye_run.specs.Asking.{Answers, Asking, answers, asks, held_or_missing, result_of}
+use Rattle.dye_run.specs.Asking.{Asking}
 use Rattle.dye_run.specs.Check.{check_report, check_rule}
 use Rattle.dye_run.specs.Commands.{asking_for, asking_of, written_by}
+use Rattle.dye_run.specs.Coordinates.{coordinates_report}
 use Rattle.dye_run.specs.Demo.{demo_job}
+use Rattle.dye_run.specs.Diff.{diff_report}
 use Rattle.dye_run.specs.Due.{CanBeRead, up_to_limit}
 use Rattle.dye_run.specs.Endings.{Ended, IsSearched, IsUnreadable, Leaves, Reaches, World}
 use Rattle.dye_run.specs.Endings as ended
 use Rattle.dye_run.specs.Forms.{Form, check, correct, demo, diff, ks, lab, predict, show, xyz}
-use Rattle.dye_run.specs.Inputs.{Tables, asks_tables, table_from, tables_from}
+use Rattle.dye_run.specs.Inputs.{reads_book, reads_tables}
+use Rattle.dye_run.specs.Jobs.{JobRead, due_cert, reads_job}
+use Rattle.dye_run.specs.Ks.{ks_report}
 use Rattle.dye_run.specs.Lab.{lab_evaluations}
 use Rattle.dye_run.specs.Outcome as faults
 use Rattle.dye_run.specs.Outcome.{Fault, Outcome, conclusion_status, fault_status, grammar, invalid, job, no_column, outcome_of, reported, status_of, steps, too_long, text_of, unreadable, usage, written_of}
+use Rattle.dye_run.specs.Reading.{Gets, asks, held_or_missing, makes, result_of}
 use Rattle.dye_run.specs.Search.{search_report}
 use Rattle.dye_run.specs.Show.{show_report, show_rule}
 use Rattle.dye_run.specs.Statuses as table
@@ -31,26 +34,21 @@ use Rattle.dye_run.proofs.CoordinateLaws.{coordinates_proper}
 use Rattle.dye_run.proofs.Diff.{diff_proper}
 use Rattle.dye_run.proofs.Ks.{ks_proper}
 use Rattle.dye_run.proofs.Lab.{lab_stands}
-use Rattle.dye_run.proofs.JobOutcomes.{cert_proper, job_proper}
-use Rattle.dye_run.proofs.Proper.{IsProper, name_written, proper_then, refusal, report}
+use Rattle.dye_run.proofs.Proper.{IsProper, name_written, proper_reading, refusal, report}
 use Rattle.dye_run.proofs.SearchLaws.{check_proper, demo_proper, search_proper}
 use Rattle.dye_run.proofs.ShowLaws.{show_proper}
 use Rattle.dye_run.proofs.Xyz.{xyz_stands}
 
--- the possible outcomes of a command over a curve file and a weights file
-tables_proper : (contents : Option Contents) (curves weights : List ℕ) (judged : Tables → Result Report Fault) (o : Outcome) → ((tables : Tables) → IsProper None (outcome_of (judged tables))) → Answers contents (asks_tables curves weights judged) o → IsProper None o
-tables_proper contents curves weights judged o proper w = subst (IsProper None) (sym w.2.2) (proper_then (tables_from curves weights w.0 w.2.0) judged proper)
-
 -- the possible outcomes of each command
-pub form_proper : (contents : Option Contents) (form : Form) (o : Outcome) → Answers contents (asking_of form) o → IsProper (written_by (Some form)) o
-form_proper contents (ks words) o w = subst (IsProper None) (sym w.2) (proper_then (table_from (curve_table_of Ten) words.curves w.0) _ (ks_proper words))
-form_proper contents (xyz words) o w = tables_proper contents words.curves words.weights _ o (coordinates_proper xyz_evaluations xyz_stands words) w
-form_proper contents (lab words) o w = tables_proper contents words.curves words.weights _ o (coordinates_proper lab_evaluations lab_stands words) w
-form_proper contents (diff words) o w = tables_proper contents words.curves words.weights _ o (diff_proper words) w
-form_proper contents (show words) o w = job_proper contents show_rule words.job (show_report words) o (show_proper words) w
-form_proper contents (predict words) o w = job_proper contents Without words.job (search_report words.cert) o (search_proper words.cert) w
-form_proper contents (correct words) o w = job_proper contents With words.job (search_report words.cert) o (search_proper words.cert) w
-form_proper contents (check words) o w = cert_proper contents check_rule words.job words.cert check_report o check_proper w
+pub form_proper : (contents : Option Contents) (form : Form) (o : Outcome) → Gets contents (asking_of form) o → IsProper (written_by (Some form)) o
+form_proper contents (ks words) o w = proper_reading contents (reads_book words.curves) (ks_report words) o (ks_proper words) w
+form_proper contents (xyz words) o w = proper_reading contents (reads_tables words.curves words.weights) (coordinates_report xyz_evaluations words) o (coordinates_proper xyz_evaluations xyz_stands words) w
+form_proper contents (lab words) o w = proper_reading contents (reads_tables words.curves words.weights) (coordinates_report lab_evaluations words) o (coordinates_proper lab_evaluations lab_stands words) w
+form_proper contents (diff words) o w = proper_reading contents (reads_tables words.curves words.weights) (diff_report words) o (diff_proper words) w
+form_proper contents (show words) o w = proper_reading contents (reads_job show_rule words.job None) (λ (read : JobRead). show_report words read.job) o (λ read. show_proper words read.job) w
+form_proper contents (predict words) o w = proper_reading contents (reads_job Without words.job None) (λ (read : JobRead). search_report words.cert read.job) o (λ read. search_proper words.cert read.job) w
+form_proper contents (correct words) o w = proper_reading contents (reads_job With words.job None) (λ (read : JobRead). search_report words.cert read.job) o (λ read. search_proper words.cert read.job) w
+form_proper contents (check words) o w = proper_reading contents (reads_job check_rule words.job (Some (due_cert words.cert))) (λ (read : JobRead). check_report read.job read.text) o (λ read. check_proper read.job read.text) w
 form_proper contents (demo number) o w = subst (IsProper None) (sym w) (demo_proper number (demo_job number))
 
 -- where the files are known, a possible result of a read is that of the file
@@ -63,8 +61,8 @@ only_bytes_read None name limit bytes_read go r h e = absurd h
 only_bytes_read (Some bytes) name limit bytes_read go r h e = ap go h ∙ e
 
 -- where the files are known, the outcome is the one that they determine
-only_outcome : (contents : Option Contents) (c : Contents) (asking : Asking) (o p : Outcome) → contents ≡ Some c → result_of c.file asking ≡ Ok o → Answers contents asking p → p ≡ o
-only_outcome contents c (answers x) o p e r w = w ∙ cc
+only_outcome : (contents : Option Contents) (c : Contents) (asking : Asking) (o p : Outcome) → contents ≡ Some c → result_of c.file asking ≡ Ok o → Gets contents asking p → p ≡ o
+only_outcome contents c (makes x) o p e r w = w ∙ cc
 only_outcome contents c (asks name limit next) o p e r w =
     only_outcome contents c (next w.0) o p e (only_bytes_read (c.file name) name limit w.0 (λ bytes_read. result_of c.file (next bytes_read)) (Ok o) (same_bytes_read contents c name limit w.0 e w.1) r) w.2
 
@@ -97,13 +95,13 @@ module _ (form : Option Form) (before after : World) (status : ℕ) where
   by_kind : (k : Kind) (s : ℕ) → status ≡ s → kind_of s ≡ k → table.Tells form before after k status → table.Tells form before after (kind_of status) status
   by_kind k s e h t = subst (λ k. table.Tells form before after k status) (sym (ap kind_of e ∙ h)) t
 
-  explained_proper : {by : Option (List ℕ)} (o : Outcome) → IsProper by o → Answers before.shelf.contents (asking_for form) o → IsExplained o
+  explained_proper : {by : Option (List ℕ)} (o : Outcome) → IsProper by o → Gets before.shelf.contents (asking_for form) o → IsExplained o
   explained_proper o (report r e none finer) w =
-      subst (λ o. Answers before.shelf.contents (asking_for form) o → IsExplained o) (sym e) (λ w s l searched.
+      subst (λ o. Gets before.shelf.contents (asking_for form) o → IsExplained o) (sym e) (λ w s l searched.
       by_kind table.report (conclusion_status r.conclusion) s (report_kind r.conclusion)
       (record { report = r; answers = w; status = sym s; leaves = l; finer = finer; searched = searched })) w
   explained_proper o (refusal fault e) w =
-      subst (λ o. Answers before.shelf.contents (asking_for form) o → IsExplained o) (sym e) (λ w s l searched.
+      subst (λ o. Gets before.shelf.contents (asking_for form) o → IsExplained o) (sym e) (λ w s l searched.
       by_kind table.refusal (fault_status fault) s (fault_kind fault) (record { fault = fault; status = sym s; answers = w; leaves = l })) w
 
   explained_unreadable : (o : Outcome) (name : List ℕ) → IsUnreadable (asking_for form) before.shelf after.shelf name → o ≡ unreadable name → IsExplained o
@@ -177,7 +175,7 @@ own_of o (report p e own finer) r is = let same : p ≡ r = cc in ap name_writte
 own_of o (refusal fault e) r is = cc
 
 -- the name of the file of a report is that of the command's file
-pub writes_own : (form : Option Form) (contents : Option Contents) (r : Report) → Answers contents (asking_for form) (reported r) → name_written r ≡ written_by form
+pub writes_own : (form : Option Form) (contents : Option Contents) (r : Report) → Gets contents (asking_for form) (reported r) → name_written r ≡ written_by form
 writes_own None contents r w = cc
 writes_own (Some f) contents r w = own_of (reported r) (form_proper contents f (reported r) w) r refl
 

@@ -2,17 +2,18 @@
 use Rattle.std.specs.Prelude.{ℕ, List, Option, Some, None}
 use Rattle.job_file.specs.declared.top.BatchRule.{BatchRule}
 use Rattle.job_file.specs.declared.top.BatchRule.TheVariants.{With, Without}
-use Rattle.dye_run.specs.Asking.{Asking, answers}
+use Rattle.dye_run.specs.Asking.{Asking, reports_on}
 use Rattle.dye_run.specs.Check.{check_report, check_rule}
 use Rattle.dye_run.specs.Coordinates.{coordinates_report}
 use Rattle.dye_run.specs.Demo.{demo_job, demo_report}
 use Rattle.dye_run.specs.Diff.{diff_report}
 use Rattle.dye_run.specs.Forms.{Form, check, correct, demo, diff, ks, lab, predict, show, xyz}
-use Rattle.dye_run.specs.Inputs.{asks_book, asks_tables}
-use Rattle.dye_run.specs.Jobs.{asks_cert, asks_job}
+use Rattle.dye_run.specs.Inputs.{reads_book, reads_tables}
+use Rattle.dye_run.specs.Jobs.{due_cert, reads_job}
 use Rattle.dye_run.specs.Ks.{ks_report}
 use Rattle.dye_run.specs.Lab.{lab_evaluations}
 use Rattle.dye_run.specs.Outcome.{outcome_of, usage}
+use Rattle.dye_run.specs.Reading.{makes}
 use Rattle.dye_run.specs.Search.{search_report}
 use Rattle.dye_run.specs.Show.{show_report, show_rule}
 use Rattle.dye_run.specs.Words.{CertWords}
@@ -29,11 +30,11 @@ pub data Task : Type 0 where
   summarises : (number : ℕ) → Task
 
 abbrev pub task_of : Form → Task
-task_of (ks words) = reports (asks_book words.curves (ks_report words))
-task_of (xyz words) = reports (asks_tables words.curves words.weights (coordinates_report xyz_evaluations words))
-task_of (lab words) = reports (asks_tables words.curves words.weights (coordinates_report lab_evaluations words))
-task_of (diff words) = reports (asks_tables words.curves words.weights (diff_report words))
-task_of (show words) = reports (asks_job show_rule words.job (show_report words))
+task_of (ks words) = reports (reports_on (reads_book words.curves) (ks_report words))
+task_of (xyz words) = reports (reports_on (reads_tables words.curves words.weights) (coordinates_report xyz_evaluations words))
+task_of (lab words) = reports (reports_on (reads_tables words.curves words.weights) (coordinates_report lab_evaluations words))
+task_of (diff words) = reports (reports_on (reads_tables words.curves words.weights) (diff_report words))
+task_of (show words) = reports (reports_on (reads_job show_rule words.job None) (λ read. show_report words read.job))
 task_of (predict words) = finds Without words
 task_of (correct words) = finds With words
 task_of (check words) = confirms words
@@ -42,9 +43,9 @@ task_of (demo number) = summarises number
 -- the files that a task asks for, and then its outcome
 abbrev pub asking_by : Task → Asking
 asking_by (reports asking) = asking
-asking_by (finds rule words) = asks_job rule words.job (search_report words.cert)
-asking_by (confirms words) = asks_cert check_rule words.job words.cert check_report
-asking_by (summarises number) = answers (outcome_of (demo_report number (demo_job number)))
+asking_by (finds rule words) = reports_on (reads_job rule words.job None) (λ read. search_report words.cert read.job)
+asking_by (confirms words) = reports_on (reads_job check_rule words.job (Some (due_cert words.cert))) (λ read. check_report read.job read.text)
+asking_by (summarises number) = makes (outcome_of (demo_report number (demo_job number)))
 
 -- the name that a task writes a file under, where it writes one
 abbrev pub written_for : Task → Option (List ℕ)
@@ -58,7 +59,7 @@ asking_of form = asking_by (task_of form)
 
 -- the same for words that may have no form
 abbrev pub asking_for : Option Form → Asking
-asking_for None = answers usage
+asking_for None = makes usage
 asking_for (Some form) = asking_of form
 
 abbrev pub written_by : Option Form → Option (List ℕ)

@@ -11,11 +11,12 @@ use Rattle.shelf_io.specs.Counts.{CountsFailure, IsRaised}
 use Rattle.shelf_io.specs.Taking.{AddsPrefix}
 use Rattle.shelf_io.specs.View.{ShelfView, SinkView}
 use Rattle.dye_run.specs.Answers.{Report}
-use Rattle.dye_run.specs.Asking.{Answers, Asking, IsDue, MayTake}
+use Rattle.dye_run.specs.Asking.{Asking}
 use Rattle.dye_run.specs.Commands.{asking_for, written_by}
 use Rattle.dye_run.specs.Due.{FailsToRead}
 use Rattle.dye_run.specs.Forms.{Form}
 use Rattle.dye_run.specs.Outcome.{Outcome, not_written, refused, reported, status_of, text_of, unreadable, usage, written_of}
+use Rattle.dye_run.specs.Reading.{Gets, IsDue, MayTake, Reading}
 
 -- what is known of the shelf and of the sink at one moment
 pub record World : Type 0 where
@@ -72,15 +73,15 @@ pub record FailsToWrite (before after : ShelfView) (name bytes : List ℕ) : Typ
   pub contents : IsCutOff name bytes before.contents after.contents
 
 -- the file of this name was due and could not be read
-pub record IsUnreadable (asking : Asking) (before after : ShelfView) (name : List ℕ) : Type 0 where
-  pub due : IsDue before.contents asking name
+pub record IsUnreadable {X : Type 0} (reading : Reading X) (before after : ShelfView) (name : List ℕ) : Type 0 where
+  pub due : IsDue before.contents reading name
   pub failed : FailsToRead before after name
 
 -- the outcome of the call: the one over the bytes that were read, or that a due file could not be
 -- read
 abbrev pub Reaches : Asking → (before after : ShelfView) → Outcome → Type 0
 Reaches asking before after o =
-    Answers before.contents asking o
+    Gets before.contents asking o
     ⊎ ((name : List ℕ) × IsUnreadable asking before after name × (o ≡ unreadable name))
 
 -- the status where a put or a write failed
@@ -109,7 +110,7 @@ pub data Ended (form : Option Form) (before after : World) (status : ℕ) : Type
       → (IsTrue (before.sink.puts_promised (length (text_of o))) → ⊥)
       → Ended form before after status
   spoiled : (r : Report) (name bytes : List ℕ)
-      → Answers before.shelf.contents (asking_for form) (reported r)
+      → Gets before.shelf.contents (asking_for form) (reported r)
       → r.written ≡ Some (name, bytes)
       → status ≡ not_written_status
       → FailsToWrite before.shelf after.shelf name bytes
@@ -126,7 +127,7 @@ pub data ChangesFiles (form : Option Form) (before after : ShelfView) : Type 0 w
   reads_alone : OnlyReads (IsDue before.contents (asking_for form)) before after → ChangesFiles form before after
   writes_too : (mid : ShelfView) (r : Report) (name bytes : List ℕ)
       → OnlyReads (IsDue before.contents (asking_for form)) before mid
-      → Answers before.contents (asking_for form) (reported r)
+      → Gets before.contents (asking_for form) (reported r)
       → r.written ≡ Some (name, bytes)
       → written_by form ≡ Some name
       → OnlyWrites name (length bytes) mid after
@@ -135,7 +136,7 @@ pub data ChangesFiles (form : Option Form) (before after : ShelfView) : Type 0 w
 -- the file of every possible outcome can be written under the name, as is promised
 abbrev pub ArePromised : Option Form → ShelfView → List ℕ → Type 0
 ArePromised form before name =
-    (r : Report) (bytes : List ℕ) → Answers before.contents (asking_for form) (reported r) → r.written ≡ Some (name, bytes) → IsTrue (before.writes_promised name (length bytes))
+    (r : Report) (bytes : List ℕ) → Gets before.contents (asking_for form) (reported r) → r.written ≡ Some (name, bytes) → IsTrue (before.writes_promised name (length bytes))
 
 -- What a call changes: the shelf by reads of due files, of each at most one byte more than its
 -- limit each time that it is due, and by writes of the file that the command writes, of which none

@@ -1,6 +1,6 @@
 -- What a command that searches or checks claims about the recipes of a job, in terms of the
 -- recipes: the plain list of them, their costs, limits and verdicts.
-use Rattle.std.specs.Prelude.{◌≡◌, ◌⊎◌, ◌*◌, ◌<◌, ◌≤◌, ℕ, true, min, List, length, map, option_map, Option, Some, None, Ok}
+use Rattle.std.specs.Prelude.{◌≡◌, ◌⊎◌, ◌*◌, ◌<◌, ◌≤◌, ℕ, true, min, List, [], length, map, option_map, Option, Some, None, Ok}
 use Rattle.std.specs.Io.KnownBytes.{append_known}
 use Rattle.std.specs.List.{AllZip}
 use Rattle.box_cert.specs.Spelling.{Content, cert_text}
@@ -16,7 +16,6 @@ use Rattle.box_specs.specs.Tree.{need}
 use Rattle.box_specs.specs.Validity.{IsValid}
 use Rattle.cert_laws.specs.Laws.{ClaimHolds}
 use Rattle.interval_specs.specs.Encloses.{Encloses}
-use Rattle.job_file.specs.Job.{Values}
 use Rattle.job_file.specs.Resolve.{ResolvedJob}
 use Rattle.job_file.specs.declared.top.BatchRule.{BatchRule}
 use Rattle.metamerism.specs.declared.outcomes.Verdict.{Verdict}
@@ -27,7 +26,6 @@ use Rattle.shade_report.specs.Recipes.{RecipeValues, verdict_name}
 use Rattle.shelf_io.specs.Contents.{Contents}
 use Rattle.fix_bounds.specs.Scales.{base_unit}
 use Rattle.dye_run.specs.Answers.{Evaluation, verdict_on}
-use Rattle.dye_run.specs.Asking.{result_of}
 use Rattle.dye_run.specs.Check.{accepted_report, check_rule}
 use Rattle.dye_run.specs.Commands as task
 use Rattle.dye_run.specs.Commands.{asking_of, task_of}
@@ -35,29 +33,18 @@ use Rattle.dye_run.specs.Demo.{demo_job, matched_cost}
 use Rattle.dye_run.specs.Due.{CanBeRead}
 use Rattle.dye_run.specs.Endings.{World, with_written}
 use Rattle.dye_run.specs.Forms.{Form, check}
-use Rattle.dye_run.specs.Jobs.{JobTables, job_from, job_tables_from, light_files, resolved_from}
+use Rattle.dye_run.specs.Jobs.{reads_job}
 use Rattle.dye_run.specs.Outcome.{conclusion_status, reported}
+use Rattle.dye_run.specs.Reading.{Gets, result_of}
 use Rattle.dye_run.specs.Search.{conclusion_of, evaluations_of, matched_values}
 use Rattle.dye_run.specs.Show.{recipe_values}
 use Rattle.dye_run.specs.Words.{CertWords}
-use Rattle.spectral_tables.specs.declared.records.TheConstants.{TABLE_LIMIT}
 use Rattle.box_cert.specs.declared.read.TheConstants.{CERT_LIMIT}
-use Rattle.dye_run.specs.declared.jobs.TheConstants.{JOB_LIMIT}
 
 -- a job is that of the files: it is resolved from the bytes read from the file with this name, from
 -- its curve file and from the weights files of its lights
-pub record IsJobOfFiles (contents : Option Contents) (rule : BatchRule) (name : List ℕ) (r : ResolvedJob) : Type 0 where
-  pub job_bytes : Option (List ℕ)
-  pub values : Values
-  pub curves_bytes : Option (List ℕ)
-  pub weights_bytes : List (Option (List ℕ))
-  pub tables : JobTables
-  pub job : CanBeRead contents name JOB_LIMIT job_bytes
-  pub curves : CanBeRead contents values.head.curves TABLE_LIMIT curves_bytes
-  pub weights : AllZip (λ file bytes_read. CanBeRead contents file TABLE_LIMIT bytes_read) (light_files values) weights_bytes
-  pub accepted : job_from rule name job_bytes ≡ Ok values
-  pub read : job_tables_from values curves_bytes weights_bytes ≡ Ok tables
-  pub resolved : resolved_from name values tables ≡ Ok r
+abbrev pub IsJobOfFiles : Option Contents → BatchRule → List ℕ → ResolvedJob → Type 0
+IsJobOfFiles contents rule name r = Gets contents (reads_job rule name None) (Ok (record { job = r; text = [] }))
 
 -- over these files, with the certificate written, `check` accepts the certificate
 abbrev pub CheckAccepts : Option Contents → CertWords → ResolvedJob → Claim → Type 0

@@ -6,9 +6,8 @@ use Rattle.spectral_tables.specs.CurveFile.{curve_table_of}
 use Rattle.spectral_tables.specs.WeightTable.{WeightTable}
 use Rattle.spectral_tables.specs.WeightFile.{weight_table_of}
 use Rattle.spectral_tables.specs.declared.fault.TableFault.{TableFault}
-use Rattle.dye_run.specs.Answers.{Report}
-use Rattle.dye_run.specs.Asking.{Asking, answers, asks}
-use Rattle.dye_run.specs.Outcome.{Fault, no_column, outcome_of, table, too_long}
+use Rattle.dye_run.specs.Outcome.{Fault, no_column, table, too_long}
+use Rattle.dye_run.specs.Reading.{DueFile, Reading, makes, one_file, then_reads}
 use Rattle.spectral_tables.specs.declared.records.TheConstants.{TABLE_LIMIT}
 
 infixl 10 ◌>>=◌
@@ -46,12 +45,15 @@ tables_from curves weights curves_bytes weights_bytes = do
   weights_of_file ← table_from (weight_table_of Ten) weights weights_bytes
   Ok (record { book = book; weights = weights_of_file })
 
--- a curve file is due, and judged when it has been read
-abbrev pub asks_book : List ℕ → (Book → Result Report Fault) → Asking
-asks_book curves judged = asks curves TABLE_LIMIT (λ bytes_read. answers (outcome_of (table_from (curve_table_of Ten) curves bytes_read >>= judged)))
+-- a file of a table that is due
+abbrev pub due_table : List ℕ → DueFile
+due_table name = record { name = name; limit = TABLE_LIMIT }
 
--- a curve file and then a weights file are due, and both are judged when they have been read
-abbrev pub asks_tables : (curves weights : List ℕ) → (Tables → Result Report Fault) → Asking
-asks_tables curves weights judged =
-    asks curves TABLE_LIMIT (λ curves_bytes. asks weights TABLE_LIMIT (λ weights_bytes.
-    answers (outcome_of (tables_from curves weights curves_bytes weights_bytes >>= judged))))
+-- a curve file is due
+abbrev pub reads_book : List ℕ → Reading (Result Book Fault)
+reads_book curves = then_reads (one_file (due_table curves)) (λ bytes_read. makes (table_from (curve_table_of Ten) curves bytes_read))
+
+-- a curve file and then a weights file are due
+abbrev pub reads_tables : (curves weights : List ℕ) → Reading (Result Tables Fault)
+reads_tables curves weights =
+    then_reads (one_file (due_table curves)) (λ curves_bytes. then_reads (one_file (due_table weights)) (λ weights_bytes. makes (tables_from curves weights curves_bytes weights_bytes)))

@@ -1,4 +1,5 @@
--- A job with its files: its curves, and the weights of its lights in their order.
+-- A job with its files, its curves and the weights of its lights in their order, and the text of
+-- another file that is due with it.
 use Rattle.std.specs.Prelude.{ℕ, List, [], ◌∷◌, ◌++◌, Option, Some, None, Result, Ok, Err, map}
 use Rattle.job_file.specs.Job.{Values, job_of}
 use Rattle.job_file.specs.Resolve.{ResolvedJob, resolved_job}
@@ -9,11 +10,9 @@ use Rattle.spectral_tables.specs.declared.grid.WaveGrid.TheVariants.{Ten}
 use Rattle.spectral_tables.specs.CurveFile.{curve_table_of}
 use Rattle.spectral_tables.specs.WeightTable.{WeightTable}
 use Rattle.spectral_tables.specs.WeightFile.{weight_table_of}
-use Rattle.dye_run.specs.Answers.{Report}
-use Rattle.dye_run.specs.Asking.{Asking, answers, asks}
-use Rattle.dye_run.specs.Inputs.{◌>>=◌, table_from}
-use Rattle.dye_run.specs.Outcome.{Fault, job, outcome_of, refused, too_long}
-use Rattle.spectral_tables.specs.declared.records.TheConstants.{TABLE_LIMIT}
+use Rattle.dye_run.specs.Inputs.{◌>>=◌, due_table, table_from}
+use Rattle.dye_run.specs.Outcome.{Fault, job, too_long}
+use Rattle.dye_run.specs.Reading.{DueFile, Reading, any_file, each_file, makes, one_file, then_reads}
 use Rattle.box_cert.specs.declared.read.TheConstants.{CERT_LIMIT}
 use Rattle.dye_run.specs.declared.jobs.TheConstants.{JOB_LIMIT}
 
@@ -31,6 +30,10 @@ job_from rule name (Some bytes) = unless_broken name (job_of rule bytes)
 abbrev pub light_files : Values → List (List ℕ)
 light_files j = map (λ light. light.weights) j.light
 
+-- the files that a job names: its curves, and then its weights
+abbrev pub job_files : Values → List (List ℕ)
+job_files j = j.head.curves ∷ light_files j
+
 -- the weights so far and then those of the named files, from the bytes read
 unfoldable pub weights_after : List WeightTable → List (List ℕ) → List (Option (List ℕ)) → Result (List WeightTable) Fault
 weights_after before [] bytes_read = Ok before
@@ -44,72 +47,67 @@ pub record JobTables : Type 0 where
   pub book : Book
   pub weights : List WeightTable
 
--- both, from the bytes read: a fault of the curves is named before those of the weights in their
--- order
-unfoldable pub job_tables_from : Values → Option (List ℕ) → List (Option (List ℕ)) → Result JobTables Fault
-job_tables_from j curves_bytes weights_bytes = do
+-- both, from the bytes read of the job's files: a fault of the curves is named before those of the
+-- weights in their order
+unfoldable pub job_tables_from : Values → List (Option (List ℕ)) → Result JobTables Fault
+job_tables_from j [] = Err (too_long j.head.curves)
+job_tables_from j (curves_bytes ∷ weights_bytes) = do
   book ← table_from (curve_table_of Ten) j.head.curves curves_bytes
   weights ← weights_after [] (light_files j) weights_bytes
   Ok (record { book = book; weights = weights })
-
--- these files of tables are due, one after the other
-unfoldable pub asks_each : List (List ℕ) → (List (Option (List ℕ)) → Asking) → Asking
-asks_each [] next = next []
-asks_each (name ∷ names) next = asks name TABLE_LIMIT (λ first. asks_each names (λ bytes_read. next (first ∷ bytes_read)))
-
--- the curve file of a job is due and then its weights files, and the rest of the command is given
--- the bytes read
-abbrev pub asks_job_files : Values → (Option (List ℕ) → List (Option (List ℕ)) → Asking) → Asking
-asks_job_files j next = asks j.head.curves TABLE_LIMIT (λ curves_bytes. asks_each (light_files j) (next curves_bytes))
-
--- all of them are judged when they have been read
-abbrev pub asks_job_tables : Values → (JobTables → Result Report Fault) → Asking
-asks_job_tables j judged = asks_job_files j (λ curves_bytes weights_bytes. answers (outcome_of (job_tables_from j curves_bytes weights_bytes >>= judged)))
 
 -- a job resolved over its tables
 abbrev pub resolved_from : List ℕ → Values → JobTables → Result ResolvedJob Fault
 resolved_from name j tables = unless_broken name (resolved_job tables.book j tables.weights)
 
-abbrev pub unless_faulty_job : Result Values Fault → (Values → Asking) → Asking
-unless_faulty_job (Ok j) next = next j
-unless_faulty_job (Err fault) next = answers (refused fault)
+-- the text of a file that is due with a job, if there is one: one with more bytes than its limit is
+-- refused
+unfoldable pub text_from : Option DueFile → Option (List ℕ) → Result (List ℕ) Fault
+text_from None bytes_read = Ok []
+text_from (Some file) None = Err (too_long file.name)
+text_from (Some file) (Some bytes) = Ok bytes
 
--- a job is due, and judged by itself when it has been read; the rest is asked for only where it is
--- accepted
-abbrev pub asks_accepted : BatchRule → List ℕ → (Values → Asking) → Asking
-asks_accepted rule name next = asks name JOB_LIMIT (λ bytes_read. unless_faulty_job (job_from rule name bytes_read) next)
-
--- a job is due, and where it has no fault its tables; the job resolved over them is judged
-abbrev pub asks_job : BatchRule → List ℕ → (ResolvedJob → Result Report Fault) → Asking
-asks_job rule name judged = asks_accepted rule name (λ j. asks_job_tables j (λ tables. resolved_from name j tables >>= judged))
-
--- the tables of a job, and the text of a certificate
-pub record CertTables : Type 0 where
+-- the tables of a job, and the text of the other file
+pub record Gathered : Type 0 where
   pub tables : JobTables
   pub text : List ℕ
 
-abbrev pub unless_too_long : List ℕ → Option (List ℕ) → Result (List ℕ) Fault
-unless_too_long name None = Err (too_long name)
-unless_too_long name (Some bytes) = Ok bytes
-
--- both, from the bytes read: a fault of a table is named before a certificate that is too long
-unfoldable pub cert_tables_from : Values → List ℕ → Option (List ℕ) → List (Option (List ℕ)) → Option (List ℕ) → Result CertTables Fault
-cert_tables_from j cert curves_bytes weights_bytes cert_bytes = do
-  tables ← job_tables_from j curves_bytes weights_bytes
-  text ← unless_too_long cert cert_bytes
+-- both, from the bytes read: a fault of a table is named before one of the other file
+unfoldable pub gathered_from : Values → Option DueFile → List (Option (List ℕ)) → Option (List ℕ) → Result Gathered Fault
+gathered_from j other job_bytes other_bytes = do
+  tables ← job_tables_from j job_bytes
+  text ← text_from other other_bytes
   Ok (record { tables = tables; text = text })
 
--- the tables of a job are due and then a certificate, and all are judged when they have been read
-abbrev pub asks_cert_tables : Values → List ℕ → (CertTables → Result Report Fault) → Asking
-asks_cert_tables j cert judged =
-    asks_job_files j (λ curves_bytes weights_bytes. asks cert CERT_LIMIT (λ cert_bytes.
-    answers (outcome_of (cert_tables_from j cert curves_bytes weights_bytes cert_bytes >>= judged))))
+-- the files of a job are due one after the other, and then the other file
+abbrev pub reads_gathered : Values → Option DueFile → Reading (Result Gathered Fault)
+reads_gathered j other =
+    then_reads (each_file (map due_table (job_files j))) (λ job_bytes. then_reads (any_file other) (λ other_bytes. makes (gathered_from j other job_bytes other_bytes)))
 
--- the judgement of a job resolved over its tables, with the text of a certificate
-abbrev pub resolved_then : List ℕ → Values → (ResolvedJob → List ℕ → Result Report Fault) → CertTables → Result Report Fault
-resolved_then name j judged t = resolved_from name j t.tables >>= (λ r. judged r t.text)
+-- a job resolved over its tables, with the text of the other file
+pub record JobRead : Type 0 where
+  pub job : ResolvedJob
+  pub text : List ℕ
 
--- a job is due, and where it has no fault its tables and then a certificate; the resolved job is
--- judged with the certificate
-abbrev pub asks_cert : BatchRule → (name cert : List ℕ) → (ResolvedJob → List ℕ → Result Report Fault) → Asking
-asks_cert rule name cert judged = asks_accepted rule name (λ j. asks_cert_tables j cert (resolved_then name j judged))
+abbrev pub read_from : List ℕ → Values → Gathered → Result JobRead Fault
+read_from name j gathered = resolved_from name j gathered.tables >>= (λ r. Ok (record { job = r; text = gathered.text }))
+
+-- what an accepted job requires is due, and the job is resolved over it
+abbrev pub reads_accepted : List ℕ → Values → Option DueFile → Reading (Result JobRead Fault)
+reads_accepted name j other = then_reads (reads_gathered j other) (λ gathered. makes (gathered >>= read_from name j))
+
+abbrev pub where_accepted : {X : Type 0} → Result Values Fault → (Values → Reading (Result X Fault)) → Reading (Result X Fault)
+where_accepted (Ok j) next = next j
+where_accepted (Err fault) next = makes (Err fault)
+
+abbrev pub due_job : List ℕ → DueFile
+due_job name = record { name = name; limit = JOB_LIMIT }
+
+-- a job is due, and judged by itself when it has been read; its tables and the other file are due
+-- only where it is accepted
+abbrev pub reads_job : BatchRule → List ℕ → Option DueFile → Reading (Result JobRead Fault)
+reads_job rule name other = then_reads (one_file (due_job name)) (λ bytes_read. where_accepted (job_from rule name bytes_read) (λ j. reads_accepted name j other))
+
+-- the certificate that is due with a job
+abbrev pub due_cert : List ℕ → DueFile
+due_cert name = record { name = name; limit = CERT_LIMIT }

@@ -1,12 +1,13 @@
 -- The results of the steps of a command in code, compared with their definitions.
-use Rattle.std.specs.Prelude.{◌≡◌, ◌≤◌, ℕ, List, Option, Some, None, IfSome, IsTrue, Result, Ok, Err, option_map}
+use Rattle.std.specs.Prelude.{◌≡◌, ◌⊎◌, ℕ, List, Option, Some, None, IfSome, Result, Ok, Err, option_map}
 use Rattle.box_cert.specs.Spelling.{cert_text, content}
 use Rattle.shelf_io.specs.View.{ShelfView}
 use Rattle.dye_run.specs.Answers as spec
-use Rattle.dye_run.specs.Asking.{Answers, Asking, IsDue, ReadsDue}
+use Rattle.dye_run.specs.Asking.{Asking}
 use Rattle.dye_run.specs.Due.{FailsToRead}
-use Rattle.dye_run.specs.Endings.{IsSearchable, Reaches}
+use Rattle.dye_run.specs.Endings.{IsSearchable, IsUnreadable, Reaches}
 use Rattle.dye_run.specs.Outcome.{Fault, Outcome, grammar, invalid, job, no_column, not_written, outcome_of, refusal_outcome, refused, reported, steps, table, too_long, unreadable, usage}
+use Rattle.dye_run.specs.Reading.{Gets, Reading, ReadsDue}
 use Rattle.dye_run.specs.declared.report.Report.{Report}
 use Rattle.dye_run.specs.declared.report.Written.{Written}
 use Rattle.dye_run.specs.declared.stop.OwnedRefusal.{OwnedRefusal}
@@ -68,24 +69,30 @@ StopsAt name before after why = IfSome (stop_outcome why) (λ o. (o ≡ unreadab
 abbrev pub Stops : Asking → (before after : ShelfView) → Stop → Type 0
 Stops asking before after why = IfSome (stop_outcome why) (λ o. Reaches asking before after o)
 
--- the command stopped, after it had read only due files
-pub record StopsHaving (asking : Asking) (before after : ShelfView) (why : Stop) : Type 0 where
-  pub stops : Stops asking before after why
-  pub reads : ReadsDue asking before after
+-- a due file could not be read, or memory ran out
+abbrev pub IsUnread : {X : Type 0} → Reading X → (before after : ShelfView) → Stop → Type 0
+IsUnread reading before after why = IfSome (stop_outcome why) (λ o. (name : List ℕ) × IsUnreadable reading before after name × (o ≡ unreadable name))
 
--- the first due files have been read: what holds for the rest of the command from now on holds for
--- the whole command from before on
-pub record GoesOn (asking rest : Asking) (before now : ShelfView) : Type 0 where
-  pub answers : (o : Outcome) → Answers now.contents rest o → Answers before.contents asking o
-  pub due : (name : List ℕ) → IsDue now.contents rest name → IsDue before.contents asking name
-  pub reads : (after : ShelfView) → ReadsDue rest now after → ReadsDue asking before after
-  pub grows : (name : List ℕ) → before.read_faults name ≤ now.read_faults name
-  pub kept : (name : List ℕ) → IsTrue (before.reads_promised name) → IsTrue (now.reads_promised name)
+-- a reading was broken off, after only due files had been read
+pub record Breaks {X : Type 0} (reading : Reading X) (before after : ShelfView) (why : Stop) : Type 0 where
+  pub unread : IsUnread reading before after why
+  pub reads : ReadsDue reading before after
+
+-- the outcome of a reading that makes no value: its fault, or that a due file could not be read
+abbrev pub StopsAs : {Y : Type 0} → Reading (Result Y Fault) → (before after : ShelfView) → Outcome → Type 0
+StopsAs reading before after o =
+    ((fault : Fault) × Gets before.contents reading (Err fault) × (o ≡ refused fault))
+    ⊎ ((name : List ℕ) × IsUnreadable reading before after name × (o ≡ unreadable name))
+
+-- the value that the code made, through `view`, is that of the reading, or it stopped
+abbrev pub IsMade : {X Y : Type 0} → (X → Y) → Reading (Result Y Fault) → (before after : ShelfView) → Result X Stop → Type 0
+IsMade view reading before after (Ok x) = Gets before.contents reading (Ok (view x))
+IsMade view reading before after (Err why) = IfSome (stop_outcome why) (λ o. StopsAs reading before after o)
 
 -- the input was made from the due reads, so that its judgement is the outcome; or the command
 -- stopped
 abbrev pub IsInput : {X : Type 0} → Asking → (X → Result spec.Report Fault) → (before after : ShelfView) → Result X Stop → Type 0
-IsInput asking judged before after (Ok x) = Answers before.contents asking (outcome_of (judged x))
+IsInput asking judged before after (Ok x) = Gets before.contents asking (outcome_of (judged x))
 IsInput asking judged before after (Err why) = Stops asking before after why
 
 -- the report is that of the command's outcome, or the command stopped

@@ -18,6 +18,7 @@ pub mod Judging
 pub mod Ks
 pub mod Lab
 pub mod Outcome
+pub mod Reading
 pub mod Search
 pub mod Show
 pub mod Statuses

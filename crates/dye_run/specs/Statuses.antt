@@ -4,12 +4,12 @@ use Rattle.shade_report.specs.Refusals.{unreadable_text, usage_text}
 use Rattle.shelf_io.specs.Contents.{Contents}
 use Rattle.shelf_io.specs.Counts.{IsRaised}
 use Rattle.dye_run.specs.Answers.{Report, StandsFiner}
-use Rattle.dye_run.specs.Asking.{Answers, IsDue, result_of}
 use Rattle.dye_run.specs.Commands.{asking_for}
 use Rattle.dye_run.specs.Endings.{FailsToWrite, IsPut, IsSearchable, IsUnreadable, Leaves, LeavesPrefix, Reaches, World, out_of_memory_status}
 use Rattle.dye_run.specs.Forms.{Form}
 use Rattle.dye_run.specs.Outcome as outcome
 use Rattle.dye_run.specs.Outcome.{Fault, Outcome, conclusion_status, fault_status, refused, reported, status_of, text_of, written_of}
+use Rattle.dye_run.specs.Reading.{Gets, IsDue, result_of}
 
 -- the kinds of statuses
 pub data Kind : Type 0 where
@@ -39,7 +39,7 @@ module _ (form : Option Form) (before after : World) where
   -- there
   pub record IsReport (result : ℕ) : Type 0 where
     pub report : Report
-    pub answers : Answers before.shelf.contents (asking_for form) (reported report)
+    pub answers : Gets before.shelf.contents (asking_for form) (reported report)
     pub status : conclusion_status report.conclusion ≡ result
     pub leaves : Leaves before after report.text report.written
     pub finer : All StandsFiner report.evaluations
@@ -60,7 +60,7 @@ module _ (form : Option Form) (before after : World) where
   pub record IsRefused (result : ℕ) : Type 0 where
     pub fault : Fault
     pub status : fault_status fault ≡ result
-    pub answers : Answers before.shelf.contents (asking_for form) (refused fault)
+    pub answers : Gets before.shelf.contents (asking_for form) (refused fault)
     pub leaves : Leaves before after (text_of (refused fault)) None
 
   -- a put failed, and the sink took a prefix of what was to be printed; or the file of the report
@@ -68,7 +68,7 @@ module _ (form : Option Form) (before after : World) where
   pub data IsNotWritten : Type 0 where
     put_failed : (o : Outcome) → Reaches (asking_for form) before.shelf after.shelf o → LeavesPrefix before after (text_of o) (written_of o) → IsNotWritten
     file_failed : (r : Report) (name bytes : List ℕ)
-        → Answers before.shelf.contents (asking_for form) (reported r)
+        → Gets before.shelf.contents (asking_for form) (reported r)
         → r.written ≡ Some (name, bytes)
         → FailsToWrite before.shelf after.shelf name bytes
         → IsPut (text_of (outcome.not_written name)) before.sink after.sink

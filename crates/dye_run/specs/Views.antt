@@ -1,15 +1,18 @@
 -- What the commands and the inputs of the code stand for.
 use Rattle.dye_run.specs.declared.command.Command.{Command}
 use Rattle.dye_run.specs.declared.command.Command.TheVariants as code
-use Rattle.dye_run.specs.declared.cert_files.CertTables.{CertTables}
 use Rattle.dye_run.specs.declared.cert_words.CertWords.{CertWords}
 use Rattle.dye_run.specs.declared.commands.diff.Diff.{Diff}
 use Rattle.dye_run.specs.declared.commands.ks.Ks.{Ks}
 use Rattle.dye_run.specs.declared.commands.show.Show.{Show}
+use Rattle.dye_run.specs.declared.inputs.DueFile.{DueFile}
+use Rattle.dye_run.specs.declared.jobs.Gathered.{Gathered}
+use Rattle.dye_run.specs.declared.jobs.JobRead.{JobRead}
 use Rattle.dye_run.specs.declared.jobs.JobTables.{JobTables}
 use Rattle.dye_run.specs.declared.tables.Tables.{Tables}
 use Rattle.dye_run.specs.declared.tolerance.Tolerance.{Tolerance}
 use Rattle.dye_run.specs.declared.words.LitColumn.{LitColumn}
+use Rattle.job_file.specs.ResolvedView.{resolved_view}
 use Rattle.std.specs.Global.{Vec}
 use Rattle.std.specs.Prelude.{ℕ, List, Option, option_map}
 use Rattle.dye_run.specs.Diff.{DiffWords}
@@ -17,6 +20,7 @@ use Rattle.dye_run.specs.Forms.{Form, check, correct, demo, diff, ks, lab, predi
 use Rattle.dye_run.specs.Inputs as inputs
 use Rattle.dye_run.specs.Jobs as jobs
 use Rattle.dye_run.specs.Ks.{KsWords}
+use Rattle.dye_run.specs.Reading as reading
 use Rattle.dye_run.specs.Show.{ShowWords}
 use Rattle.dye_run.specs.Words as words
 
@@ -69,6 +73,14 @@ bytes_view bytes_read = option_map (λ bytes. bytes.items) bytes_read
 abbrev pub job_tables_view : JobTables → jobs.JobTables
 job_tables_view tables = record { book = tables.book; weights = tables.weights.items }
 
--- the same, with the text of a certificate
-abbrev pub cert_tables_view : CertTables → jobs.CertTables
-cert_tables_view t = record { tables = job_tables_view t.tables; text = t.text.items }
+-- the same, with the text of another file
+abbrev pub gathered_view : Gathered → jobs.Gathered
+gathered_view g = record { tables = job_tables_view g.tables; text = g.text.items }
+
+-- a job that was read and resolved, with the text of another file
+abbrev pub job_read_view : JobRead → jobs.JobRead
+job_read_view r = record { job = resolved_view r.resolved; text = r.text.items }
+
+-- a file that is due
+abbrev pub due_view : DueFile → reading.DueFile
+due_view file = record { name = file.name.now; limit = file.limit }

@@ -1,10 +1,10 @@
 //! The commands, each with its words.
 
 ghost use Rattle.std.specs.Prelude.{◌≡◌, map, option_map, string_bytes};
-ghost use Rattle.dye_run.specs.Asking.{ReadsDue};
 ghost use Rattle.dye_run.specs.Commands.{asking_of};
 ghost use Rattle.dye_run.specs.Forms.{form_of};
 ghost use Rattle.dye_run.specs.Judging.{IsJudged};
+ghost use Rattle.dye_run.specs.Reading.{ReadsDue};
 ghost use Rattle.dye_run.specs.Views.{form_view};
 
 use crate::cert_words::CertWords;

@@ -3,8 +3,9 @@
 ghost use Rattle.std.specs.Prelude.{◌≡◌, IfOk, List, ℕ};
 ghost use Rattle.spectral_tables.specs.WeightTable.{HasItemEachWave, WeightTable};
 ghost use Rattle.dye_run.specs.Answers.{Evaluation, lines_of};
+ghost use Rattle.dye_run.specs.Asking.{reports_on};
 ghost use Rattle.dye_run.specs.Coordinates.{coordinates_report};
-ghost use Rattle.dye_run.specs.Inputs.{asks_tables};
+ghost use Rattle.dye_run.specs.Inputs.{reads_tables};
 ghost use Rattle.dye_run.specs.Views.{lit_view, tables_view};
 
 use crate::inputs::read_tables;
@@ -36,7 +37,7 @@ pub(crate) struct ColumnReport<'a, C>(pub LitColumn<'a>, pub C);
 impl<'a, C: Coordinates> Inquiry<'a> for ColumnReport<'a, C> {
     type Input = Tables;
 
-    ghost asking = { λ c. asks_tables c.0.curves.now c.0.weights.now
+    ghost asking = { λ c. reports_on (reads_tables c.0.curves.now c.0.weights.now)
         (coordinates_report (C.evaluations c.1) (lit_view c.0)) };
 
     ghost judged = { λ c tables.

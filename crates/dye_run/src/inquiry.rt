@@ -2,9 +2,10 @@
 
 ghost use Rattle.std.specs.Prelude.{Result};
 ghost use Rattle.dye_run.specs.Answers as spec;
-ghost use Rattle.dye_run.specs.Asking.{Asking, ReadsDue};
+ghost use Rattle.dye_run.specs.Asking.{Asking};
 ghost use Rattle.dye_run.specs.Judging.{IsInput, IsJudged, Reports};
 ghost use Rattle.dye_run.specs.Outcome.{Fault};
+ghost use Rattle.dye_run.specs.Reading.{ReadsDue};
 
 use crate::report::Report;
 use crate::stop::Stop;

@@ -1,31 +1,28 @@
-//! Reading a job with its files: its curves, and the weights of its lights.
+//! Reading a job with its files, its curves and the weights of its lights, and another file that is
+//! due with it.
 
-ghost use Rattle.std.specs.Prelude.{◌≡◌, ◌≤◌, ℕ, List, [], All, IfErr, IfOk, IfSome, Option, Result, length, map, option_map};
-ghost use Rattle.std.specs.Option.{ForSome};
+ghost use Rattle.std.specs.Prelude.{◌≡◌, ◌≤◌, [], All, IfOk, length, map, option_map};
 ghost use Rattle.job_file.specs.JobView.{job_view};
-ghost use Rattle.job_file.specs.Resolve.{ResolvedJob};
-ghost use Rattle.job_file.specs.ResolvedView.{resolved_view};
 ghost use Rattle.spectral_tables.specs.CurveBook.{wave_count};
 ghost use Rattle.spectral_tables.specs.Grid.{count_of};
 ghost use Rattle.spectral_tables.specs.declared.grid.WaveGrid.TheVariants.{Ten};
-ghost use Rattle.dye_run.specs.Answers.{Report};
-ghost use Rattle.dye_run.specs.Asking.{Asking, ReadsDue};
-ghost use Rattle.dye_run.specs.Files.{FitsFiles};
+ghost use Rattle.dye_run.specs.Files.{FitsFiles, IsShort};
+ghost use Rattle.dye_run.specs.Inputs.{due_table};
 ghost use Rattle.dye_run.specs.Jobs as spec;
-ghost use Rattle.dye_run.specs.Jobs.{asks_each, asks_job, asks_job_files, asks_job_tables, job_tables_from, resolved_from, weights_after};
-ghost use Rattle.dye_run.specs.Judging.{Gives, GoesOn, IsInput, StopsHaving};
-ghost use Rattle.dye_run.specs.Outcome.{Fault};
-ghost use Rattle.dye_run.specs.Views.{bytes_view, job_tables_view};
-ghost use Rattle.spectral_tables.specs.declared.records.TheConstants.{TABLE_LIMIT};
+ghost use Rattle.dye_run.specs.Jobs.{gathered_from, job_files, job_tables_from, read_from, reads_accepted, reads_gathered, reads_job, resolved_from, text_from, weights_after};
+ghost use Rattle.dye_run.specs.Judging.{Gives, IsMade};
+ghost use Rattle.dye_run.specs.Reading.{ReadsDue};
+ghost use Rattle.dye_run.specs.Views.{bytes_view, due_view, gathered_view, job_read_view, job_tables_view};
+ghost use Rattle.job_file.specs.ResolvedView.{resolved_view};
 
-use crate::inputs::due;
+use crate::inputs::{DueFile, due_table, read_any, read_each, read_one};
 use crate::stop::Stop;
 use crate::tables::table_from;
-use job_file::{BatchRule, Job, JobError, JobLight, Resolved, read_job, resolve};
+use job_file::{BatchRule, Job, JobError, JobLight, Resolved, read_job as job_of_bytes, resolve};
 use shade_report::Refusal;
 use shelf_io::Shelf;
-use spectral_tables::{CurveBook, TABLE_LIMIT, Weights};
-use std::alloc::Global;
+use spectral_tables::{CurveBook, Weights};
+use std::alloc::{AllocError, Global};
 
 /// How many bytes a job file may have.
 pub(crate) const JOB_LIMIT: u64 = 1_000_000;
@@ -52,36 +49,11 @@ pub(crate) fn job_from<'a>(
     let Some(bytes) = bytes_read else {
         return Err(Stop::Refused(Refusal::TooLong(name)));
     };
-    match read_job(alloc, bytes, rule) {
+    match job_of_bytes(alloc, bytes, rule) {
         Ok(job) => Ok(job),
         Err(JobError::Fault(fault)) => Err(Stop::Refused(Refusal::Job(name, fault))),
         Err(JobError::Memory) => Err(Stop::Memory),
     }
-}
-
-/// Reads the weights files of lights, which are due one after the other.
-fn read_lights<'n, H: Shelf>(
-    alloc: Global,
-    shelf: &mut H,
-    lights: &'n [JobLight],
-) -> Result<Vec<Option<Vec<u8>>>, Stop<'n>>
-    ensures bytes_read { (next : List (Option (List ℕ)) → Asking) → IfOk result (λ bytes_read.
-        GoesOn (asks_each (map (λ l. l.weights) lights.now) next)
-        (next (map bytes_view bytes_read.items))
-        (H.view shelf.old) (H.view shelf.new)) }
-    ensures count { IfOk result (λ bytes_read. length bytes_read.items ≡ length lights.now) }
-    ensures short { IfOk result (λ bytes_read.
-        All (λ c. IfSome c (λ bytes. length bytes.items ≤ TABLE_LIMIT)) bytes_read.items) }
-    ensures stopped { (next : List (Option (List ℕ)) → Asking) → IfErr result (λ why.
-        StopsHaving (asks_each (map (λ l. l.weights) lights.now) next)
-        (H.view shelf.old) (H.view shelf.new) why) }
-{
-    let mut bytes_read = Vec::new(alloc);
-    for light in lights {
-        let bytes = due(alloc, shelf, light.weights.as_str(), TABLE_LIMIT)?;
-        bytes_read.push(bytes)?;
-    }
-    Ok(bytes_read)
 }
 
 /// The weights of lights, from the bytes read from their files.
@@ -91,7 +63,7 @@ fn weights_of<'n>(
     bytes_read: &[Option<Vec<u8>>],
 ) -> Result<Vec<Weights>, Stop<'n>>
     requires count { length bytes_read.now ≡ length lights.now }
-    requires short { All (λ c. IfSome c (λ bytes. length bytes.items ≤ TABLE_LIMIT)) bytes_read.now }
+    requires short { All IsShort bytes_read.now }
     ensures is { Gives (λ w. w.items) result
         (weights_after [] (map (λ l. l.weights) lights.now) (map bytes_view bytes_read.now)) }
     ensures count { IfOk result (λ w. length w.items ≡ length lights.now) }
@@ -106,71 +78,120 @@ fn weights_of<'n>(
     Ok(weights)
 }
 
-/// The bytes read from the files of a job: its curves, and the weights of its lights in order.
-#[derive(Drop)]
-pub(crate) struct FilesRead {
-    pub curves: Option<Vec<u8>>,
-    pub weights: Vec<Option<Vec<u8>>>,
-}
-
-/// Reads the curves of a job and then the weights of its lights, which are all due.
-pub(crate) fn read_job_files<'n, H: Shelf>(
-    alloc: Global,
-    shelf: &mut H,
-    job: &'n Job,
-) -> Result<FilesRead, Stop<'n>>
-    ensures bytes_read { (next : Option (List ℕ) → List (Option (List ℕ)) → Asking) →
-        IfOk result (λ c. GoesOn (asks_job_files (job_view job.now) next)
-        (next (bytes_view c.curves) (map bytes_view c.weights.items))
-        (H.view shelf.old) (H.view shelf.new)) }
-    ensures fit { IfOk result (FitsFiles (length job.now.light.items)) }
-    ensures stopped { (next : Option (List ℕ) → List (Option (List ℕ)) → Asking) →
-        IfErr result (λ why. StopsHaving (asks_job_files (job_view job.now) next)
-        (H.view shelf.old) (H.view shelf.new) why) }
-{
-    let curves = due(alloc, shelf, job.curves.as_str(), TABLE_LIMIT)?;
-    let weights = read_lights(alloc, shelf, job.light.as_slice())?;
-    Ok(FilesRead { curves, weights })
-}
-
-/// The tables of a job, from the bytes read from its files.
+/// The tables of a job, from the bytes read from its files: its curves, and the weights of its
+/// lights in order.
 #[tactic(auto, unfolding(crate::specs::Jobs::job_tables_from))]
 pub(crate) fn tables_of<'n>(
     alloc: Global,
     job: &'n Job,
-    bytes_read: &FilesRead,
+    bytes_read: &[Option<Vec<u8>>],
 ) -> Result<JobTables, Stop<'n>>
     requires { FitsFiles (length job.now.light.items) bytes_read.now }
-    ensures is { Gives job_tables_view result (job_tables_from (job_view job.now)
-        (bytes_view bytes_read.now.curves) (map bytes_view bytes_read.now.weights.items)) }
+    ensures is { Gives job_tables_view result
+        (job_tables_from (job_view job.now) (map bytes_view bytes_read.now)) }
     ensures count { IfOk result (λ t. length t.weights.items ≡ length job.now.light.items) }
     ensures waves { IfOk result (λ t.
         All (λ w. length w.weights ≡ wave_count t.book) t.weights.items) }
 {
-    let book = table_from(alloc, job.curves.as_str(), bytes_read.curves.as_deref())?;
-    let weights = weights_of(alloc, job.light.as_slice(), bytes_read.weights.as_slice())?;
+    let [curves, others @ ..] = bytes_read else {
+        return Err(Stop::Refused(Refusal::TooLong(job.curves.as_str())));
+    };
+    let book = table_from(alloc, job.curves.as_str(), curves.as_deref())?;
+    let weights = weights_of(alloc, job.light.as_slice(), others)?;
     Ok(JobTables { book, weights })
 }
 
-/// Reads the curves of a job and then the weights of its lights, which are all due, and makes the
-/// job's tables.
-fn read_job_tables<'n, H: Shelf>(
+/// The tables of a job, and the text of another file.
+#[derive(Drop)]
+pub(crate) struct Gathered {
+    tables: JobTables,
+    text: Vec<u8>,
+}
+
+/// A job that is resolved over its files, and the text of another file.
+#[derive(Drop)]
+pub(crate) struct JobRead {
+    pub resolved: Resolved,
+    pub text: Vec<u8>,
+}
+
+/// The text of a file that is due with a job, from the bytes that were read. These are `None` where
+/// the file has more bytes than its limit, which is refused.
+#[tactic(auto, unfolding(crate::specs::Jobs::text_from))]
+fn text_from<'a>(
+    alloc: Global,
+    other: Option<DueFile<'a>>,
+    bytes_read: Option<Vec<u8>>,
+) -> Result<Vec<u8>, Stop<'a>>
+    ensures { Gives (λ t. t.items) result
+        (text_from (option_map due_view other.entry) (bytes_view bytes_read)) }
+{
+    let Some(file) = other else {
+        return Ok(Vec::new(alloc));
+    };
+    match bytes_read {
+        Some(bytes) => Ok(bytes),
+        None => Err(Stop::Refused(Refusal::TooLong(file.name))),
+    }
+}
+
+/// The tables of a job and the text of the other file, from the bytes that were read.
+#[tactic(auto, unfolding(crate::specs::Jobs::gathered_from))]
+fn gathered_of<'n>(
+    alloc: Global,
+    job: &'n Job,
+    other: Option<DueFile<'n>>,
+    job_bytes: &[Option<Vec<u8>>],
+    other_bytes: Option<Vec<u8>>,
+) -> Result<Gathered, Stop<'n>>
+    requires { FitsFiles (length job.now.light.items) job_bytes.now }
+    ensures is { Gives gathered_view result
+        (gathered_from (job_view job.now) (option_map due_view other.entry)
+        (map bytes_view job_bytes.now) (bytes_view other_bytes)) }
+    ensures count { IfOk result (λ g. length g.tables.weights.items
+        ≡ length job.now.light.items) }
+    ensures waves { IfOk result (λ g.
+        All (λ w. length w.weights ≡ wave_count g.tables.book) g.tables.weights.items) }
+{
+    let tables = tables_of(alloc, job, job_bytes)?;
+    let text = text_from(alloc, other, other_bytes)?;
+    Ok(Gathered { tables, text })
+}
+
+/// The files of a job, which are due: its curves, and the weights of its lights in order.
+fn files_of<'n>(alloc: Global, job: &'n Job) -> Result<Vec<DueFile<'n>>, AllocError>
+    ensures { IfOk result (λ files. map due_view files.items
+        ≡ map due_table (job_files (job_view job.now))) }
+{
+    let mut files = Vec::new(alloc);
+    files.push(due_table(job.curves.as_str()))?;
+    for light in job.light.as_slice() {
+        files.push(due_table(light.weights.as_str()))?;
+    }
+    Ok(files)
+}
+
+/// Reads the files that a job names and then the other file, which are all due, and makes the job's
+/// tables.
+fn read_gathered<'n, H: Shelf>(
     alloc: Global,
     shelf: &mut H,
     job: &'n Job,
-) -> Result<JobTables, Stop<'n>>
-    ensures input { (judged : spec.JobTables → Result Report Fault) →
-        IsInput (asks_job_tables (job_view job.now) judged) (λ t. judged (job_tables_view t))
+    other: Option<DueFile<'n>>,
+) -> Result<Gathered, Stop<'n>>
+    ensures made { IsMade gathered_view (reads_gathered (job_view job.now) (option_map due_view other.entry))
         (H.view shelf.old) (H.view shelf.new) result }
-    ensures reads { (judged : spec.JobTables → Result Report Fault) →
-        ReadsDue (asks_job_tables (job_view job.now) judged)
+    ensures reads { ReadsDue (reads_gathered (job_view job.now) (option_map due_view other.entry))
         (H.view shelf.old) (H.view shelf.new) }
-    ensures count { IfOk result (λ t. length t.weights.items ≡ length job.now.light.items) }
-    ensures waves { IfOk result (λ t.
-        All (λ w. length w.weights ≡ wave_count t.book) t.weights.items) }
+    ensures count { IfOk result (λ g. length g.tables.weights.items
+        ≡ length job.now.light.items) }
+    ensures waves { IfOk result (λ g.
+        All (λ w. length w.weights ≡ wave_count g.tables.book) g.tables.weights.items) }
 {
-    let bytes_read = read_job_files(alloc, shelf, job)?;
-    tables_of(alloc, job, &bytes_read)
+    let files = files_of(alloc, job)?;
+    let job_bytes = read_each(alloc, shelf, files.as_slice())?;
+    let other_bytes = read_any(alloc, shelf, other)?;
+    gathered_of(alloc, job, other, job_bytes.as_slice(), other_bytes)
 }
 
 /// Resolves a job over its tables.
@@ -194,25 +215,64 @@ pub(crate) fn resolved_from<'a>(
     }
 }
 
-/// Reads a job, which is due, and where it has no fault its tables, which are then due; and
-/// resolves the job over them.
-pub(crate) fn read_resolved<'a, H: Shelf>(
+/// Resolves a job over its tables, and keeps the text of the other file.
+fn read_from<'a>(
+    alloc: Global,
+    name: &'a str,
+    job: Job,
+    gathered: Gathered,
+) -> Result<JobRead, Stop<'a>>
+    requires count { length gathered.tables.weights.items ≡ length job.light.items }
+    requires waves { All (λ w. length w.weights ≡ wave_count gathered.tables.book)
+        gathered.tables.weights.items }
+    ensures { Gives job_read_view result
+        (read_from name.now (job_view job) (gathered_view gathered)) }
+{
+    let Gathered { tables, text } = gathered;
+    let resolved = resolved_from(alloc, name, job, tables)?;
+    Ok(JobRead { resolved, text })
+}
+
+/// Reads what an accepted job requires and the other file, and resolves the job.
+fn read_accepted<'a, H: Shelf>(
+    alloc: Global,
+    shelf: &mut H,
+    name: &'a str,
+    job: Job,
+    other: Option<DueFile<'a>>,
+) -> Result<JobRead, Stop<'a>>
+    ensures made { IsMade job_read_view
+        (reads_accepted name.now (job_view job) (option_map due_view other.entry))
+        (H.view shelf.old) (H.view shelf.new) result }
+    ensures reads { ReadsDue (reads_accepted name.now (job_view job) (option_map due_view other.entry))
+        (H.view shelf.old) (H.view shelf.new) }
+{
+    let gathered = match read_gathered(alloc, shelf, &job, other) {
+        Ok(gathered) => gathered,
+        Err(stop) => return Err(stop.owned(alloc)),
+    };
+    read_from(alloc, name, job, gathered)
+}
+
+/// Reads a job, which is due, and where it has no fault its tables and the other file, which are
+/// then due; and resolves the job over its tables.
+pub(crate) fn read_job<'a, H: Shelf>(
     alloc: Global,
     shelf: &mut H,
     rule: BatchRule,
     name: &'a str,
-) -> Result<Resolved, Stop<'a>>
-    ensures input { (judged : ResolvedJob → Result Report Fault) →
-        IsInput (asks_job rule name.now judged) (λ r. judged (resolved_view r))
+    other: Option<DueFile<'a>>,
+) -> Result<JobRead, Stop<'a>>
+    ensures made { IsMade job_read_view (reads_job rule name.now (option_map due_view other.entry))
         (H.view shelf.old) (H.view shelf.new) result }
-    ensures reads { (judged : ResolvedJob → Result Report Fault) →
-        ReadsDue (asks_job rule name.now judged) (H.view shelf.old) (H.view shelf.new) }
+    ensures reads { ReadsDue (reads_job rule name.now (option_map due_view other.entry))
+        (H.view shelf.old) (H.view shelf.new) }
 {
-    let bytes_read = due(alloc, shelf, name, JOB_LIMIT)?;
-    let job = job_from(alloc, rule, name, bytes_read.as_deref())?;
-    let tables = match read_job_tables(alloc, shelf, &job) {
-        Ok(tables) => tables,
-        Err(stop) => return Err(stop.owned(alloc)),
+    let file = DueFile {
+        name,
+        limit: JOB_LIMIT,
     };
-    resolved_from(alloc, name, job, tables)
+    let bytes_read = read_one(alloc, shelf, &file)?;
+    let job = job_from(alloc, rule, name, bytes_read.as_deref())?;
+    read_accepted(alloc, shelf, name, job, other)
 }

@@ -2,7 +2,6 @@
 //! call, generic over the shelf that it reads and writes, and the sink that it prints to.
 #![tactic(auto)]
 
-mod cert_files;
 mod cert_words;
 mod colour;
 mod command;

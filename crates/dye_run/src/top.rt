@@ -1,5 +1,4 @@
 ghost use Rattle.std.specs.Prelude.{◌≡◌, is_err, IsErrOf, IsSome, map, string_bytes, if◌then◌else◌};
-ghost use Rattle.dye_run.specs.Asking.{ReadsDue};
 ghost use Rattle.dye_run.specs.Commands.{asking_for};
 ghost use Rattle.dye_run.specs.Delivery.{Delivers, Prints};
 ghost use Rattle.dye_run.specs.Endings.{Changes, Ended, not_written_status, world};
@@ -7,6 +6,7 @@ ghost use Rattle.dye_run.specs.Forms.{form_of};
 ghost use Rattle.dye_run.specs.Headline.{SaysOfRecipes};
 ghost use Rattle.dye_run.specs.Judging.{IsJudged, file_view};
 ghost use Rattle.dye_run.specs.Outcome.{conclusion_status, refusal_outcome, status_of, text_of};
+ghost use Rattle.dye_run.specs.Reading.{ReadsDue};
 ghost use Rattle.dye_run.specs.Statuses.{IsComplete, IsReliable, StatusTells};
 
 use crate::command::{command_of, judge};

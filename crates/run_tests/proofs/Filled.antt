@@ -6,12 +6,13 @@ use Rattle.shelf_io.specs.Contents.{Contents}
 use Rattle.shelf_io.specs.Filling.{IsFilled}
 use Rattle.shelf_io.specs.MemShelf.{ShelfState, promises_reads, promises_writes, shelf_contents, shelf_view}
 use Rattle.shelf_io.specs.MemSink.{SinkState, promises_puts, sink_view}
-use Rattle.dye_run.specs.Asking.{Asking, IsDue, answers, asks, held_or_missing, result_of}
+use Rattle.dye_run.specs.Asking.{Asking}
 use Rattle.dye_run.specs.Commands.{asking_for}
 use Rattle.dye_run.specs.Due.{up_to_limit}
 use Rattle.dye_run.specs.Endings.{out_of_memory_status, with_written, world}
 use Rattle.dye_run.specs.Forms.{Form}
 use Rattle.dye_run.specs.Outcome.{Outcome, text_of, written_of}
+use Rattle.dye_run.specs.Reading.{IsDue, asks, held_or_missing, makes, result_of}
 use Rattle.dye_run.specs.Statuses as statuses
 use Rattle.run_tests.specs.Filled.{IsDone, IsReliable}
 
@@ -35,7 +36,7 @@ asked_held c o first name limit next (Some bytes) e h rest (inr (read, can, due)
 
 -- where the files determine an outcome, each due name has a file
 pub due_held : (c : Contents) (o : Outcome) (asking : Asking) (name : List ℕ) → result_of c.file asking ≡ Ok o → IsDue (Some c) asking name → IsSome (c.file name)
-due_held c o (answers p) name h due = absurd due
+due_held c o (makes p) name h due = absurd due
 due_held c o (asks first limit next) name h due =
     asked_held c o first name limit next (c.file first) refl h (λ read k d. due_held c o (next read) name k d) due
 

@@ -5,11 +5,11 @@ use Rattle.shelf_io.specs.Calls.{none_scheduled}
 use Rattle.shelf_io.specs.Filling.{no_files, put_files}
 use Rattle.shelf_io.specs.MemShelf.{ShelfState, shelf_contents}
 use Rattle.shelf_io.specs.MemSink.{SinkState}
-use Rattle.dye_run.specs.Asking.{result_of}
 use Rattle.dye_run.specs.Commands.{asking_for}
 use Rattle.dye_run.specs.Endings.{out_of_memory_status, with_written}
 use Rattle.dye_run.specs.Forms.{Form}
 use Rattle.dye_run.specs.Outcome.{Outcome, status_of, text_of, written_of}
+use Rattle.dye_run.specs.Reading.{result_of}
 
 -- the outcome was written and printed, after the bytes that the sink had taken before
 pub record IsDone (room : ℕ) (files : List (List ℕ × List ℕ)) (o : Outcome) (before after : SinkState) (returned : ℕ) (shelf : ShelfState) : Type 0 where

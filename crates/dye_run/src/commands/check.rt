@@ -1,20 +1,22 @@
 //! `check`: whether a certificate is valid for a job.
 
-ghost use Rattle.std.specs.Prelude.{◌≡◌, ◌≤◌, length};
+ghost use Rattle.std.specs.Prelude.{◌≡◌, ◌≤◌, length, Some};
 ghost use Rattle.box_cert.specs.Spelling.{content};
 ghost use Rattle.recipe_judge.specs.Recipes.{recipe_land};
 ghost use Rattle.dye_run.specs.Check.{cert_from, check_report, check_rule, valid_from};
-ghost use Rattle.dye_run.specs.Jobs.{asks_cert};
+ghost use Rattle.dye_run.specs.Asking.{reports_on};
+ghost use Rattle.dye_run.specs.Jobs.{due_cert, reads_job};
 ghost use Rattle.dye_run.specs.Judging.{Gives};
 ghost use Rattle.box_cert.specs.declared.read.TheConstants.{CERT_LIMIT};
 
-use crate::cert_files::{WithCert, read_with_cert};
 use crate::cert_words::CertWords;
+use crate::inputs::DueFile;
 use crate::inquiry::Inquiry;
+use crate::jobs::{JobRead, read_job};
 use crate::recipes::budget_of;
 use crate::report::{Report, plain_report};
 use crate::stop::Stop;
-use box_cert::{CertError, read_cert};
+use box_cert::{CERT_LIMIT, CertError, read_cert};
 use box_core::{Cert, Checked, Evals, Landscape};
 use cert_check::check;
 use job_file::BatchRule;
@@ -65,20 +67,20 @@ pub(crate) fn valid_from<'a>(alloc: Global, land: &RecipeLand, cert: Cert) -> Re
 impl<'a> Inquiry<'a> for Check<'a> {
     type Input = CertInput;
 
-    ghost asking = { λ c. asks_cert check_rule c.0.job.now c.0.cert.text.now check_report };
+    ghost asking = { λ c.
+        reports_on (reads_job check_rule c.0.job.now (Some (due_cert c.0.cert.text.now)))
+        (λ read. check_report read.job read.text) };
 
     ghost judged = { λ c input. check_report input.land input.text.items };
 
     fn read<H: Shelf>(self, alloc: Global, shelf: &mut H) -> Result<CertInput, Stop<'a>> {
         let Check(words) = self;
-        let inputs_read = read_with_cert(
-            alloc,
-            shelf,
-            BatchRule::Either,
-            words.job,
-            words.cert.text,
-        )?;
-        let WithCert { resolved, text } = inputs_read;
+        let cert = DueFile {
+            name: words.cert.text,
+            limit: CERT_LIMIT,
+        };
+        let read = read_job(alloc, shelf, BatchRule::Either, words.job, Some(cert))?;
+        let JobRead { resolved, text } = read;
         let land = RecipeLand::of_job(alloc, resolved)?;
         Ok(CertInput { land, text })
     }

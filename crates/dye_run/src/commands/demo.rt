@@ -13,7 +13,7 @@ ghost use Rattle.dye_run.specs.Views.{bytes_view};
 use crate::commands::check::valid_from;
 use crate::commands::search::{conclusion_of, search_land};
 use crate::inquiry::Inquiry;
-use crate::jobs::{FilesRead, job_from, resolved_from, tables_of};
+use crate::jobs::{job_from, resolved_from, tables_of};
 use crate::report::Report;
 use crate::seed::Seed;
 use crate::stop::Stop;
@@ -55,22 +55,19 @@ fn copy_of(alloc: Global, bytes: &Bytes) -> Result<Vec<u8>, AllocError>
     Ok(Vec::from_slice(alloc, bytes.as_slice())?)
 }
 
-/// The table files of a generated job, as if they had been read.
-fn generated_files(alloc: Global, texts: &Texts) -> Result<FilesRead, AllocError>
-    ensures curves { IfOk result (λ c. bytes_view c.curves ≡ Some texts.now.curves) }
-    ensures weights { IfOk result (λ c. map bytes_view c.weights.items
-        ≡ Some texts.now.first ∷ Some texts.now.second ∷ []) }
+/// The bytes of the table files of a generated job, as if they had been read.
+fn generated_files(alloc: Global, texts: &Texts) -> Result<Vec<Option<Vec<u8>>>, AllocError>
+    ensures { IfOk result (λ bytes_read. map bytes_view bytes_read.items
+        ≡ Some texts.now.curves ∷ Some texts.now.first ∷ Some texts.now.second ∷ []) }
 {
     let curves = copy_of(alloc, &texts.curves)?;
     let first = copy_of(alloc, &texts.first)?;
     let second = copy_of(alloc, &texts.second)?;
-    let mut weights = Vec::new(alloc);
-    weights.push(Some(first))?;
-    weights.push(Some(second))?;
-    Ok(FilesRead {
-        curves: Some(curves),
-        weights,
-    })
+    let mut bytes_read = Vec::new(alloc);
+    bytes_read.push(Some(curves))?;
+    bytes_read.push(Some(first))?;
+    bytes_read.push(Some(second))?;
+    Ok(bytes_read)
 }
 
 /// The generated job with a number, resolved over its tables.
@@ -81,7 +78,7 @@ fn generated<'a>(alloc: Global, seed: Seed) -> Result<Resolved, Stop<'a>>
     let texts = make(alloc, seed.number)?;
     let job = job_from(alloc, BatchRule::Without, NAME, Some(texts.job.as_slice()))?;
     let bytes_read = generated_files(alloc, &texts)?;
-    let tables = match tables_of(alloc, &job, &bytes_read) {
+    let tables = match tables_of(alloc, &job, bytes_read.as_slice()) {
         Ok(tables) => tables,
         Err(stop) => return Err(stop.owned(alloc)),
     };

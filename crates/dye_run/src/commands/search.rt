@@ -1,19 +1,20 @@
 //! `predict` and `correct`: the first recipe of a job that keeps the limits and passes, with the
 //! certificate that shows it.
 
-ghost use Rattle.std.specs.Prelude.{◌≡◌, All, IfOk, IfSome, map, option_map};
+ghost use Rattle.std.specs.Prelude.{◌≡◌, All, IfOk, IfSome, map, None, option_map};
 ghost use Rattle.box_search.specs.Result.{outcome_view};
 ghost use Rattle.price_grid.specs.Grid.{IsRecipe};
 ghost use Rattle.shade_report.specs.Outcomes as texts;
 ghost use Rattle.shade_report.specs.Recipes.{shown_view};
 ghost use Rattle.dye_run.specs.Endings.{IsSearchable};
-ghost use Rattle.dye_run.specs.Jobs.{asks_job};
+ghost use Rattle.dye_run.specs.Asking.{reports_on};
+ghost use Rattle.dye_run.specs.Jobs.{reads_job};
 ghost use Rattle.dye_run.specs.Search.{claimed_recipe, conclusion_of, matched_values, result_for, search_report};
 ghost use Rattle.dye_run.specs.Show.{recipe_values};
 
 use crate::cert_words::CertWords;
 use crate::inquiry::Inquiry;
-use crate::jobs::read_resolved;
+use crate::jobs::read_job;
 use crate::recipes::{budget_of, shown_of};
 use crate::report::{Report, Written};
 use crate::statuses::Conclusion;
@@ -103,14 +104,15 @@ fn result_text(alloc: Global, land: &RecipeLand, found: &Outcome) -> Result<Vec<
 impl<'a> Inquiry<'a> for Search<'a> {
     type Input = RecipeLand;
 
-    ghost asking = { λ c. asks_job c.1 c.0.job.now (search_report c.0.cert.text.now) };
+    ghost asking = { λ c. reports_on (reads_job c.1 c.0.job.now None)
+        (λ read. search_report c.0.cert.text.now read.job) };
 
     ghost judged = { λ c land. search_report c.0.cert.text.now land };
 
     fn read<H: Shelf>(self, alloc: Global, shelf: &mut H) -> Result<RecipeLand, Stop<'a>> {
         let Search(words, rule) = self;
-        let resolved = read_resolved(alloc, shelf, rule, words.job)?;
-        Ok(RecipeLand::of_job(alloc, resolved)?)
+        let read = read_job(alloc, shelf, rule, words.job, None)?;
+        Ok(RecipeLand::of_job(alloc, read.resolved)?)
     }
 
     #[tactic(auto, unfolding(crate::specs::Search::search_report))]

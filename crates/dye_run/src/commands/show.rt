@@ -1,14 +1,15 @@
 //! `show`: the report of one recipe of a job.
 
-ghost use Rattle.std.specs.Prelude.{◌≡◌, IfOk, map, option_map, string_bytes};
+ghost use Rattle.std.specs.Prelude.{◌≡◌, IfOk, map, None, option_map, string_bytes};
 ghost use Rattle.price_grid.specs.Grid.{IsRecipe};
-ghost use Rattle.dye_run.specs.Jobs.{asks_job};
+ghost use Rattle.dye_run.specs.Asking.{reports_on};
+ghost use Rattle.dye_run.specs.Jobs.{reads_job};
 ghost use Rattle.dye_run.specs.Judging.{Gives};
 ghost use Rattle.dye_run.specs.Show.{recipe_from, show_report, show_rule, show_words};
 ghost use Rattle.dye_run.specs.Views.{show_view};
 
 use crate::inquiry::Inquiry;
-use crate::jobs::read_resolved;
+use crate::jobs::read_job;
 use crate::recipes::shown_of;
 use crate::report::Report;
 use crate::statuses::Conclusion;
@@ -60,13 +61,14 @@ fn recipe_from<'a>(land: &RecipeLand, word: &'a str) -> Result<Steps, Stop<'a>>
 impl<'a> Inquiry<'a> for Show<'a> {
     type Input = RecipeLand;
 
-    ghost asking = { λ c. asks_job show_rule c.job.now (show_report (show_view c)) };
+    ghost asking = { λ c. reports_on (reads_job show_rule c.job.now None)
+        (λ read. show_report (show_view c) read.job) };
 
     ghost judged = { λ c land. show_report (show_view c) land };
 
     fn read<H: Shelf>(self, alloc: Global, shelf: &mut H) -> Result<RecipeLand, Stop<'a>> {
-        let resolved = read_resolved(alloc, shelf, BatchRule::Either, self.job)?;
-        Ok(RecipeLand::of_job(alloc, resolved)?)
+        let read = read_job(alloc, shelf, BatchRule::Either, self.job, None)?;
+        Ok(RecipeLand::of_job(alloc, read.resolved)?)
     }
 
     #[tactic(auto, unfolding(crate::specs::Show::show_report))]

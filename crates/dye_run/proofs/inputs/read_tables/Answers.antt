@@ -1,35 +1,95 @@
-use Rattle.std.proofs.Common.{rules, option_map, subst}
-use Rattle.dye_run.specs.Asking.{answers}
-use Rattle.dye_run.specs.Due.{CanBeRead}
-use Rattle.dye_run.specs.Inputs.{◌>>=◌, asks_tables, tables_from}
-use Rattle.dye_run.specs.Outcome.{outcome_of}
-use Rattle.dye_run.specs.Views.{tables_view}
-use Rattle.dye_run.proofs.DueReads.{first_read, then_read}
-use Rattle.dye_run.proofs.Judged.{input_by, stops_second}
+use Rattle.std.proofs.Common.{ℕ, List, Option, Result, rules, subst}
+use Rattle.dye_run.specs.Inputs.{Tables, due_table, reads_tables, tables_from}
+use Rattle.dye_run.specs.Judging.{Breaks}
+use Rattle.dye_run.specs.Outcome.{Fault}
+use Rattle.dye_run.specs.Reading.{Reading, Reads, ReadsDue, makes, one_file, then_reads}
+use Rattle.dye_run.specs.Views.{bytes_view, tables_view}
+use Rattle.dye_run.proofs.Readings.{breaks_first, breaks_rest, due_reads, made_rest, made_then, reads_first, reads_rest, unmade}
 use Rattle.dye_run.proofs.inputs.read_tables.Goals as goal
-use Rattle.spectral_tables.specs.declared.records.TheConstants.{TABLE_LIMIT}
 
-pub returns-in_err-second-clause-input : goal.returns-in_err-second-clause-input
-returns-in_err-second-clause-input g c = λ judged.
-    let stopped = stops_second c.args.curves.now c.args.weights.now (g.H.Shelf.view c.args.shelf.now) (g.H.Shelf.view c.due.new.shelf) (g.H.Shelf.view c.due-2.new.shelf) (option_map (λ b. b.items) c.in_ok-first.first) _ c.in_ok-first.ensures.effect c.in_ok-first.ensures.from_files c.in_err-second.ensures.stopped judged in
+pub returns-in_err-first-clause-made : goal.returns-in_err-first-clause-made
+returns-in_err-first-clause-made g c =
+    let curves = c.args.curves.now in
+    let weights = c.args.weights.now in
+    let one = one_file (due_table curves) in
+    let two = one_file (due_table weights) in
+    let next : Option (List ℕ) → Reading (Result Tables Fault) = λ curves_bytes. then_reads two (λ weights_bytes. makes (tables_from curves weights curves_bytes weights_bytes)) in
+    let before = g.H.Shelf.view c.args.shelf.now in
+    let mid = g.H.Shelf.view c.read_one.new.shelf in
+    let why = c.in_err-first.field-0.0 in
+    let made = unmade (reads_tables curves weights) before mid tables_view why (breaks_first one next before mid why (subst (λ file. Breaks (one_file file) before mid why) c.due_table.ensures c.in_err-first.ensures.stopped)) in
+    search rules
+
+pub returns-in_err-first-clause-reads : goal.returns-in_err-first-clause-reads
+returns-in_err-first-clause-reads g c =
+    let curves = c.args.curves.now in
+    let weights = c.args.weights.now in
+    let one = one_file (due_table curves) in
+    let two = one_file (due_table weights) in
+    let next : Option (List ℕ) → Reading (Result Tables Fault) = λ curves_bytes. then_reads two (λ weights_bytes. makes (tables_from curves weights curves_bytes weights_bytes)) in
+    let before = g.H.Shelf.view c.args.shelf.now in
+    let mid = g.H.Shelf.view c.read_one.new.shelf in
+    reads_first one next before mid (subst (λ file. ReadsDue (one_file file) before mid) c.due_table.ensures c.in_err-first.ensures.stopped.reads)
+
+pub returns-in_err-second-clause-made : goal.returns-in_err-second-clause-made
+returns-in_err-second-clause-made g c =
+    let curves = c.args.curves.now in
+    let weights = c.args.weights.now in
+    let one = one_file (due_table curves) in
+    let two = one_file (due_table weights) in
+    let next : Option (List ℕ) → Reading (Result Tables Fault) = λ curves_bytes. then_reads two (λ weights_bytes. makes (tables_from curves weights curves_bytes weights_bytes)) in
+    let before = g.H.Shelf.view c.args.shelf.now in
+    let mid = g.H.Shelf.view c.read_one.new.shelf in
+    let after = g.H.Shelf.view c.read_one-2.new.shelf in
+    let first = bytes_view c.in_ok-first.first in
+    let last : Option (List ℕ) → Reading (Result Tables Fault) = λ weights_bytes. makes (tables_from curves weights first weights_bytes) in
+    let read : Reads one first before mid = subst (λ file. Reads (one_file file) first before mid) c.due_table.ensures c.in_ok-first.ensures.bytes_read in
+    let why = c.in_err-second.field-0.0 in
+    let made = unmade (reads_tables curves weights) before after tables_view why (breaks_rest one next first before mid after read why (breaks_first two last mid after why (subst (λ file. Breaks (one_file file) mid after why) c.due_table-2.ensures c.in_err-second.ensures.stopped))) in
     search rules
 
 pub returns-in_err-second-clause-reads : goal.returns-in_err-second-clause-reads
-returns-in_err-second-clause-reads g c = λ judged.
-    let bytes_read = option_map (λ b. b.items) c.in_ok-first.first in
-    then_read c.args.curves.now TABLE_LIMIT _ bytes_read (g.H.Shelf.view c.args.shelf.now) (g.H.Shelf.view c.due.new.shelf) (g.H.Shelf.view c.due-2.new.shelf) c.in_ok-first.ensures.effect c.in_ok-first.ensures.handed c.in_ok-first.ensures.from_files
-    (first_read c.args.weights.now TABLE_LIMIT (λ second. answers (outcome_of (tables_from c.args.curves.now c.args.weights.now bytes_read second >>= judged))) (g.H.Shelf.view c.due.new.shelf) (g.H.Shelf.view c.due-2.new.shelf) c.in_err-second.ensures.effect c.in_err-second.ensures.handed)
+returns-in_err-second-clause-reads g c =
+    let curves = c.args.curves.now in
+    let weights = c.args.weights.now in
+    let one = one_file (due_table curves) in
+    let two = one_file (due_table weights) in
+    let next : Option (List ℕ) → Reading (Result Tables Fault) = λ curves_bytes. then_reads two (λ weights_bytes. makes (tables_from curves weights curves_bytes weights_bytes)) in
+    let before = g.H.Shelf.view c.args.shelf.now in
+    let mid = g.H.Shelf.view c.read_one.new.shelf in
+    let after = g.H.Shelf.view c.read_one-2.new.shelf in
+    let first = bytes_view c.in_ok-first.first in
+    let last : Option (List ℕ) → Reading (Result Tables Fault) = λ weights_bytes. makes (tables_from curves weights first weights_bytes) in
+    let read : Reads one first before mid = subst (λ file. Reads (one_file file) first before mid) c.due_table.ensures c.in_ok-first.ensures.bytes_read in
+    reads_rest one next first before mid after read (reads_first two last mid after (subst (λ file. ReadsDue (one_file file) mid after) c.due_table-2.ensures c.in_err-second.ensures.stopped.reads))
 
-pub returns-clause-input : goal.returns-clause-input
-returns-clause-input g c = λ judged.
-    let first = option_map (λ b. b.items) c.in_ok-first.first in
-    let second = option_map (λ b. b.items) c.in_ok-second.second in
-    input_by (asks_tables c.args.curves.now c.args.weights.now judged) judged tables_view (g.H.Shelf.view c.args.shelf.now) (g.H.Shelf.view c.due-2.new.shelf) c.tables_from.result (tables_from c.args.curves.now c.args.weights.now first second)
-    (λ o e. (first, c.in_ok-first.ensures.from_files, (second, subst (λ contents. CanBeRead contents c.args.weights.now TABLE_LIMIT second) c.in_ok-first.ensures.effect.contents c.in_ok-second.ensures.from_files, e)))
-    c.tables_from.ensures
+pub returns-clause-made : goal.returns-clause-made
+returns-clause-made g c =
+    let curves = c.args.curves.now in
+    let weights = c.args.weights.now in
+    let one = one_file (due_table curves) in
+    let two = one_file (due_table weights) in
+    let next : Option (List ℕ) → Reading (Result Tables Fault) = λ curves_bytes. then_reads two (λ weights_bytes. makes (tables_from curves weights curves_bytes weights_bytes)) in
+    let before = g.H.Shelf.view c.args.shelf.now in
+    let mid = g.H.Shelf.view c.read_one.new.shelf in
+    let after = g.H.Shelf.view c.read_one-2.new.shelf in
+    let first = bytes_view c.in_ok-first.first in
+    let last : Option (List ℕ) → Reading (Result Tables Fault) = λ weights_bytes. makes (tables_from curves weights first weights_bytes) in
+    let read : Reads one first before mid = subst (λ file. Reads (one_file file) first before mid) c.due_table.ensures c.in_ok-first.ensures.bytes_read in
+    made_rest tables_view one next first before mid after read c.tables_from.result
+    (made_then tables_view two (λ weights_bytes. tables_from curves weights first weights_bytes) (bytes_view c.in_ok-second.second) mid after c.tables_from.result (subst (λ file. Reads (one_file file) (bytes_view c.in_ok-second.second) mid after) c.due_table-2.ensures c.in_ok-second.ensures.bytes_read) c.tables_from.ensures)
 
 pub returns-clause-reads : goal.returns-clause-reads
-returns-clause-reads g c = λ judged.
-    let bytes_read = option_map (λ b. b.items) c.in_ok-first.first in
-    then_read c.args.curves.now TABLE_LIMIT _ bytes_read (g.H.Shelf.view c.args.shelf.now) (g.H.Shelf.view c.due.new.shelf) (g.H.Shelf.view c.due-2.new.shelf) c.in_ok-first.ensures.effect c.in_ok-first.ensures.handed c.in_ok-first.ensures.from_files
-    (first_read c.args.weights.now TABLE_LIMIT (λ second. answers (outcome_of (tables_from c.args.curves.now c.args.weights.now bytes_read second >>= judged))) (g.H.Shelf.view c.due.new.shelf) (g.H.Shelf.view c.due-2.new.shelf) c.in_ok-second.ensures.effect c.in_ok-second.ensures.handed)
+returns-clause-reads g c =
+    let curves = c.args.curves.now in
+    let weights = c.args.weights.now in
+    let one = one_file (due_table curves) in
+    let two = one_file (due_table weights) in
+    let next : Option (List ℕ) → Reading (Result Tables Fault) = λ curves_bytes. then_reads two (λ weights_bytes. makes (tables_from curves weights curves_bytes weights_bytes)) in
+    let before = g.H.Shelf.view c.args.shelf.now in
+    let mid = g.H.Shelf.view c.read_one.new.shelf in
+    let after = g.H.Shelf.view c.read_one-2.new.shelf in
+    let first = bytes_view c.in_ok-first.first in
+    let last : Option (List ℕ) → Reading (Result Tables Fault) = λ weights_bytes. makes (tables_from curves weights first weights_bytes) in
+    let read : Reads one first before mid = subst (λ file. Reads (one_file file) first before mid) c.due_table.ensures c.in_ok-first.ensures.bytes_read in
+    reads_rest one next first before mid after read (reads_first two last mid after (due_reads two (bytes_view c.in_ok-second.second) mid after (subst (λ file. Reads (one_file file) (bytes_view c.in_ok-second.second) mid after) c.due_table-2.ensures c.in_ok-second.ensures.bytes_read)))

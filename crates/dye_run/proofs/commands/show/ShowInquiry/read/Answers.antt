@@ -1,24 +1,28 @@
-use Rattle.std.proofs.Common.{rules, sym, subst}
-use Rattle.dye_run.specs.Asking.{Answers}
-use Rattle.dye_run.specs.Jobs.{asks_job}
+use Rattle.std.proofs.Common.{None, rules, sym, subst}
+use Rattle.dye_run.specs.Asking.{reports_on}
+use Rattle.dye_run.specs.Jobs.{JobRead, reads_job}
 use Rattle.dye_run.specs.Outcome.{outcome_of}
+use Rattle.dye_run.specs.Reading.{Gets}
 use Rattle.dye_run.specs.Show.{show_report, show_rule}
-use Rattle.dye_run.specs.Views.{show_view}
+use Rattle.dye_run.specs.Views.{job_read_view, show_view}
+use Rattle.dye_run.proofs.Readings.{input_by, input_made, input_reads}
 use Rattle.dye_run.proofs.commands.show.ShowInquiry.read.Goals as goal
 
-pub returns-in_err-resolved-clause-reads : goal.returns-in_err-resolved-clause-reads
-returns-in_err-resolved-clause-reads g c = c.in_err-resolved.ensures.reads (show_report (show_view c.args.self))
+pub returns-in_err-read-clause-input : goal.returns-in_err-read-clause-input
+returns-in_err-read-clause-input g c =
+    let stops = input_by (reads_job show_rule c.args.self.job.now None) (λ (read : JobRead). show_report (show_view c.args.self) read.job) (g.H.Shelf.view c.args.shelf.now) (g.H.Shelf.view c.read_job.new.shelf) job_read_view c.read_job.result c.read_job.ensures.made in
+    search rules
+
+pub returns-in_err-read-clause-reads : goal.returns-in_err-read-clause-reads
+returns-in_err-read-clause-reads g c = input_reads (reads_job show_rule c.args.self.job.now None) (λ (read : JobRead). show_report (show_view c.args.self) read.job) _ _ c.in_err-read.ensures.reads
 
 pub returns-in_err-of_job-clause-reads : goal.returns-in_err-of_job-clause-reads
-returns-in_err-of_job-clause-reads g c = c.in_ok-resolved.ensures.reads (show_report (show_view c.args.self))
+returns-in_err-of_job-clause-reads g c = input_reads (reads_job show_rule c.args.self.job.now None) (λ (read : JobRead). show_report (show_view c.args.self) read.job) _ _ c.in_ok-read.ensures.reads
 
 pub returns-clause-input : goal.returns-clause-input
 returns-clause-input g c =
-    let judged = show_report (show_view c.args.self) in
-    subst (λ r. Answers (g.H.Shelf.view c.args.shelf.now).contents (asks_job show_rule c.args.self.job.now judged) (outcome_of (judged r))) (sym c.in_ok-of_job.ensures.is) (c.in_ok-resolved.ensures.input judged)
+    subst (λ r. Gets (g.H.Shelf.view c.args.shelf.now).contents (reports_on (reads_job show_rule c.args.self.job.now None) (λ (read : JobRead). show_report (show_view c.args.self) read.job)) (outcome_of (show_report (show_view c.args.self) r))) (sym c.in_ok-of_job.ensures.is)
+    (input_made (reads_job show_rule c.args.self.job.now None) (λ (read : JobRead). show_report (show_view c.args.self) read.job) (g.H.Shelf.view c.args.shelf.now).contents (job_read_view c.in_ok-read.read) c.in_ok-read.ensures.made)
 
 pub returns-clause-reads : goal.returns-clause-reads
-returns-clause-reads g c = c.in_ok-resolved.ensures.reads (show_report (show_view c.args.self))
-
-pub returns-in_err-resolved-clause-input : goal.returns-in_err-resolved-clause-input
-returns-in_err-resolved-clause-input g c = let stops = c.in_err-resolved.ensures.input (show_report (show_view c.args.self)) in search rules
+returns-clause-reads g c = input_reads (reads_job show_rule c.args.self.job.now None) (λ (read : JobRead). show_report (show_view c.args.self) read.job) _ _ c.in_ok-read.ensures.reads
