@@ -18,7 +18,8 @@ use Rattle.box_search.specs.Trees.{IsSoundTree}
 use Rattle.box_search.specs.declared.hand.Waiting.{Waiting}
 use Rattle.box_search.specs.declared.nodes.Node.{Node}
 use Rattle.box_search.proofs.Endings.{equal_itself}
-use Rattle.box_search.proofs.Frontier.{entry_cases, some_same, spot_same, without_cases}
+use Rattle.box_search.proofs.Frontier.{entry_cases, spot_same, without_cases}
+use Rattle.box_specs.proofs.Tests.{some_same}
 
 -- the entry of a map at its own place, and at others
 pub entry_here : {X : Type 0} (q : Spot) (x : X) (f : Spot → Option X) → with_entry q x f q ≡ Some x

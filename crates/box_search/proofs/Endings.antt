@@ -20,13 +20,14 @@ use Rattle.box_specs.specs.Validity.{corners, is_listed, is_pass_line, is_undeci
 use Rattle.box_specs.proofs.Answers.{never_before_itself}
 use Rattle.box_specs.proofs.Cuts.{not_both as not_both_halves}
 use Rattle.box_search.specs.Frontier.{IsAt, IsCovered, IsUndecided, State, done_in, is_done, with_entry, without}
-use Rattle.box_search.proofs.Frontier.{IsChild, Turned, corner_in_box, entry_cases, equal_test, part_trans, same_part, some_same, spot_same, without_cases}
+use Rattle.box_search.proofs.Frontier.{IsChild, Turned, corner_in_box, entry_cases, equal_test, part_trans, same_part, spot_same, without_cases}
 use Rattle.std.proofs.lemmas.Option.{none-some}
-use Rattle.box_search.proofs.Orders.{before_by_key, before_on, by, key_not_before, next_deeper, not_after, not_both, not_deeper, not_itself, on_before, precedes, spot_up, spots_are_ordered}
+use Rattle.box_search.proofs.Orders.{before_by_key, before_on, key_not_before, next_deeper, not_after, not_both, not_deeper, not_itself, on_before, precedes, spot_up, spots_are_ordered}
 use Rattle.box_specs.proofs.Keys.{tied_keys}
-use Rattle.box_search.proofs.Ranks.{alike, at_sound, at_tree, below_after, ge_test, judged_above, lt_test, not_false, not_true, whole}
+use Rattle.box_search.proofs.Ranks.{alike, at_sound, at_tree, below_after, judged_above, whole}
+use Rattle.box_specs.proofs.Tests.{by, ge_test, lt_test, not_false, not_true, some_same}
 use Rattle.box_search.specs.Trees.{IsSoundTree}
-use Rattle.box_search.proofs.Trees.{count_le, count_lt, halved, part_root, whole_root}
+use Rattle.box_search.proofs.Trees.{alone, count_le, count_lt, halved, part_root, whole_root}
 use Rattle.box_specs.proofs.Spans.{corner_within}
 use Rattle.box_search.proofs.Valid.{MatchLeaf, answer, at_top, corner_in, first_is, line_match, match_leaf}
 use Rattle.box_search.proofs.Walks.{corners_are, mark, passing}
@@ -272,10 +273,6 @@ module _ (l : Land) (lawful : IsLawful l) where
     go None e = absurd (false≢true (sym (subst (IsAnswer l) e (answer l lawful) r w) ∙ m))
     go (Some a) e = e ∙ ap Some (same a (first_is l lawful a e))
 
-  no_fork_single : (u : Tree) → IsSoundTree l u → is_single (root u) ≡ true → leaf (root u) ≡ u
-  no_fork_single (leaf b) i h = refl
-  no_fork_single (fork b x y) i h = absurd (false≢true (sym i.1 ∙ or_right (is_shut l b) (is_single b) h))
-
   -- a recipe passes: it is the answer, and the judged boxes are those that are needed
   module _ (f : Spot → Option Span) (g : Spot → Option CertLine) (n : ℕ) (listed : List (List ℕ)) (d : ℕ) (u : Tree)
       (s : State l f g (Some (spot_of l d (root u))) n listed (Some (root u).lo)) (at : IsPart l (tree_of l) 0 d u) (h : is_pass_line (line_of l (root u)) ≡ true) where
@@ -283,7 +280,7 @@ module _ (l : Land) (lawful : IsLawful l) where
     Q = spot_of l d (root u)
 
     leaf_u : IsPart l (tree_of l) 0 d (leaf (root u))
-    leaf_u = subst (λ w. IsPart l (tree_of l) 0 d w) (sym (no_fork_single u (at_tree l lawful d u at) (passing l (root u) h).0.alone)) at
+    leaf_u = subst (λ w. IsPart l (tree_of l) 0 d w) (sym (alone l u (at_tree l lawful d u at) (passing l (root u) h).0.alone)) at
 
     first_one : (a : List ℕ) → IsFirstMatch l a → a ≡ (root u).lo
     first_one a m = go (match_leaf l lawful a m.grid m.matches) where

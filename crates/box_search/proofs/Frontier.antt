@@ -22,11 +22,12 @@ use Rattle.box_specs.specs.Tree.{Spot, Tree, count, fork, leaf, root, spot_cmp, 
 use Rattle.box_specs.specs.Validity.{is_pass_line, is_undecided_line}
 use Rattle.box_specs.proofs.Cuts.{from_lower, from_upper, in_lower, in_upper, not_both as not_both_halves}
 use Rattle.box_search.specs.Frontier.{IsAt, IsCovered, IsUndecided, State, done_in, is_done, with_entry, without}
-use Rattle.box_search.proofs.Orders.{IsTied, by, equal_spot, key_not_before, not_after, not_both, not_itself, on_before, precedes, spots_are_ordered, tied}
+use Rattle.box_search.proofs.Orders.{IsTied, equal_spot, key_not_before, not_after, not_both, not_itself, on_before, precedes, spots_are_ordered, tied}
 use Rattle.box_specs.proofs.Keys.{equal_one, equal_two, same_list, same_number, tied_keys}
-use Rattle.box_search.proofs.Ranks.{alike, at_sound, at_tree, below_after, not_false, not_true, whole}
+use Rattle.box_search.proofs.Ranks.{alike, at_sound, at_tree, below_after, whole}
+use Rattle.box_specs.proofs.Tests.{both_ways, by, not_false, not_true, some_same}
 use Rattle.box_search.specs.Trees.{IsSoundTree}
-use Rattle.box_search.proofs.Trees.{count_le, count_lt, disjoint, halved, part_deep, part_inside, part_tree, sound_of}
+use Rattle.box_search.proofs.Trees.{alone, count_le, count_lt, disjoint, halved, part_deep, part_inside, part_tree, sound_of}
 use Rattle.box_specs.proofs.Spans.{corner_within, inside_itself, within_inside}
 use Rattle.box_search.proofs.Walks.{undecided}
 
@@ -42,17 +43,6 @@ spot_same a b h = go (spot_cmp a b) refl h where
       let steps = same_list a.key.steps b.key.steps (equal_two (nat_cmp a.key.cost b.key.cost) (slice_cmp nat_cmp a.key.steps b.key.steps) key) in
       let depth = same_number a.depth b.depth (equal_two (key_cmp a.key b.key) (nat_cmp a.depth b.depth) e) in
       λ i. record { key = record { cost = cost i; steps = steps i }; depth = depth i }
-
-pub both_ways : (s t : Bool) → (s ≡ true → t ≡ true) → (t ≡ true → s ≡ true) → s ≡ t
-both_ways true t f g = sym (f refl)
-both_ways false true f g = g refl
-both_ways false false f g = refl
-
-pub some_same : {X : Type 0} (a b : X) → Some a ≡ Some b → a ≡ b
-some_same {X} a b e = ap take e where
-  take : Option X → X
-  take None = a
-  take (Some x) = x
 
 pub entry_cases : {X : Type 0} (q : Spot) (x : X) (f : Spot → Option X) (z : Spot) (b : X) → with_entry q x f z ≡ Some b → ((q ≡ z) × (x ≡ b)) ⊎ (f z ≡ Some b)
 entry_cases {X} q x f z b h = go (is_eq (spot_cmp q z)) refl h where
@@ -367,16 +357,12 @@ module _ (l : Land) (lawful : IsLawful l) (f fnew : Spot → Option Span) (g : S
     older_undecided : (r : List ℕ) → IsUndecided l last r → IsUndecided l (Some Q) r
     older_undecided r o = record { depth = o.depth; part = o.part; at = o.at; judged = older (spot_of l o.depth (root o.part)) o.judged; line = o.line; corner = o.corner }
 
-    alone : (v : Tree) → IsSoundTree l v → is_single (root v) ≡ true → leaf (root v) ≡ v
-    alone (leaf b) i h = refl
-    alone (fork b x y) i h = absurd (false≢true (sym i.1 ∙ or_right (is_shut l b) (is_single b) h))
-
     before_this : is_undecided_line (line_of l (root u)) ≡ true → (r : List ℕ) → IsUndecided l last r → is_before l r (root u).lo ≡ true
     before_this h r o =
         let v = o.part in
         let i = at_tree l lawful o.depth v o.at in
-        let one = alone v i (undecided l (root v) lawful (at_sound l lawful o.depth v o.at) o.line).0.alone in
-        let two = alone u (at_tree l lawful d u at_u) (undecided l (root u) lawful (at_sound l lawful d u at_u) h).0.alone in
+        let one = alone l v i (undecided l (root v) lawful (at_sound l lawful o.depth v o.at) o.line).0.alone in
+        let two = alone l u (at_tree l lawful d u at_u) (undecided l (root u) lawful (at_sound l lawful d u at_u) h).0.alone in
         let soon = earlier (spot_of l o.depth (root v)) o.judged in
         let key = key_not_before Q (spot_of l o.depth (root v)) (not_both (spot_of l o.depth (root v)) Q soon) in
         subst (λ w. is_before l w (root u).lo ≡ true) o.corner (by (is_before l (root v).lo (root u).lo) (λ y. y)

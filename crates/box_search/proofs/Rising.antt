@@ -11,8 +11,8 @@ use Rattle.box_specs.specs.Order.{IsRising, in_order, put_in}
 use Rattle.box_specs.specs.Landscape.{Land, is_before, key_of}
 use Rattle.box_specs.specs.Span.{same_steps}
 use Rattle.box_specs.specs.Validity.{is_listed}
-use Rattle.box_specs.proofs.Answers.{never_before_itself, not_before_trans, not_both_before}
-use Rattle.box_search.proofs.Orders.{by}
+use Rattle.box_specs.proofs.Answers.{before_trans, never_before_itself, not_both_before}
+use Rattle.box_specs.proofs.Tests.{by}
 use Rattle.box_specs.proofs.Keys.{tied_keys}
 
 or_cases : (a b : Bool) → a || b ≡ true → (a ≡ true) ⊎ (b ≡ true)
@@ -37,10 +37,6 @@ all_weaker P Q f [] a = tt
 all_weaker P Q f (x ∷ xs) a = (f x a.0, all_weaker P Q f xs a.1)
 
 module _ (l : Land) where
-  before_trans : (r s t : List ℕ) → is_before l r s ≡ true → is_before l s t ≡ true → is_before l r t ≡ true
-  before_trans r s t h k = by (is_before l r t) (λ e. e)
-      (λ e. absurd (false≢true (sym (not_before_trans l r t s (not_both_before l s t k) e) ∙ h)))
-
   -- each recipe stands before all that follow
   abbrev Rises : List (List ℕ) → Type 0
   Rises [] = Unit {0}
@@ -113,7 +109,7 @@ module _ (l : Land) where
   put_rises r [] h = (tt, tt)
   put_rises r (x ∷ xs) h = go (put_rises r xs h.1) (is_before l r x) (is_before l x r) refl refl where
     go : Rises (put_in l r xs) → (s t : Bool) → is_before l r x ≡ s → is_before l x r ≡ t → Rises (if s then r ∷ x ∷ xs else if t then x ∷ put_in l r xs else x ∷ xs)
-    go rest true t e f = ((e, all_weaker (λ y. is_before l x y ≡ true) (λ y. is_before l r y ≡ true) (λ y k. before_trans r x y e k) xs h.0), h)
+    go rest true t e f = ((e, all_weaker (λ y. is_before l x y ≡ true) (λ y. is_before l r y ≡ true) (λ y k. before_trans l r x y e k) xs h.0), h)
     go rest false true e f = (put_all (λ y. is_before l x y ≡ true) r xs f h.0, rest)
     go rest false false e f = h
 

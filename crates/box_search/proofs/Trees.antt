@@ -45,6 +45,11 @@ module _ (l : Land) where
   pub open_single : (b : Span) → is_final l b ≡ false → is_single b ≡ false
   open_single b h = open_parts (is_shut l b) (is_single b) h
 
+  -- a tree of sound boxes whose box is a single recipe is a leaf
+  pub alone : (v : Tree) → IsSoundTree l v → is_single (root v) ≡ true → leaf (root v) ≡ v
+  alone (leaf b) i h = refl
+  alone (fork b x y) i h = absurd (false≢true (sym i.1 ∙ or_right (is_shut l b) (is_single b) h))
+
   -- what holds of the halves of a box that is split
   pub record Halved (b : Span) : Type 0 where
     pub cuts : Cuts b (cut_of b)

@@ -11,9 +11,7 @@ use Rattle.box_specs.specs.declared.certificate.Claim.TheVariants.{Floor, Match,
 use Rattle.box_specs.specs.Validity.{are_trees}
 use Rattle.box_core.specs.Ranges.{AreOfLength, ClaimFits, HaveOneLength, LineFits, StepsFit, first_length}
 use Rattle.box_tests.specs.Certs.{are_parts, is_claim, is_line, is_recipe}
-
-at_most : (a b : ℕ) → nat_le a b ≡ true → a ≤ b
-at_most a b h = grind (arith, nat_tests)
+use Rattle.box_specs.proofs.Tests.{at_most}
 
 pub record Parts (claim : Claim) (listed : List (List ℕ)) (lines : List CertLine) : Type 0 where
   pub whole : are_trees 1 lines ≡ true

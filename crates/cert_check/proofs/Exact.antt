@@ -17,6 +17,7 @@ use Rattle.box_specs.specs.Span.{IsBox, IsWithin}
 use Rattle.box_specs.specs.Validity.{FailsUnlessValid, HaveLines, IsValid, are_trees, corners, cutoff_of, first_failure, is_early, is_in_grid, is_listed, is_pass_line, is_undecided_line, line_failure, list_failure, matched_of, or_next, unmarked_failure}
 use Rattle.cert_check.proofs.Faults.{hold_if, no_failure, or_none}
 use Rattle.cert_check.proofs.Within.{IsGood, ListIsOrdered, list_holds, list_is_ordered, or_wrong, within_test}
+use Rattle.box_specs.proofs.Lists.{listed_by, listed_of}
 
 unmarked_none : (l : Land) (us : List (List ℕ)) (n : ℕ) (rs : List (List ℕ)) → unmarked_failure l us n rs ≡ None
     → (k : ℕ) → k < length rs → is_listed us (get_or rs k []) ≡ true
@@ -37,12 +38,6 @@ marks_hold l marked n (s ∷ rest) h =
 
 to_all : (P : List ℕ → Type 0) (xs : List (List ℕ)) → ((k : ℕ) → k < length xs → P (get_or xs k [])) → All P xs
 to_all P xs h = λ k d lt. subst P (get_or_default xs k [] d lt) (h k lt)
-
-listed_of : (rs : List (List ℕ)) (r : List ℕ) → is_listed rs r ≡ true → Contains rs r
-listed_of rs r h = Contains-from_any (λ a b. (bytes_eq-Decides a b).0) r rs h
-
-listed_by : (rs : List (List ℕ)) (r : List ℕ) → Contains rs r → is_listed rs r ≡ true
-listed_by rs r h = list_any-from_Contains nat_list_eq_equiv r rs h
 
 module _ (l : Land) (box : IsBox l.top) where
   rises : (cutoff : Cutoff) (listed : List (List ℕ)) → ListIsOrdered l cutoff None listed → IsRising l listed
