@@ -13,7 +13,7 @@ use Rattle.box_specs.specs.Canonical.{IsCanonical, IsClaim, IsPart, canonical_li
 use Rattle.box_specs.specs.Landscape.{Grade, IsLawful, Land, fails, judged_by, light_of, limit_of, passes, unsure, IsSound}
 use Rattle.box_specs.specs.Span.{IsWithin, Span, is_single}
 use Rattle.box_specs.specs.Splits.{cut_of}
-use Rattle.box_specs.specs.Tree.{Spot, Tree, root, tree_of}
+use Rattle.box_specs.specs.Tree.{Tree, root, tree_of}
 use Rattle.box_specs.specs.Validity.{IsValid, corners, is_undecided_line}
 use Rattle.box_specs.proofs.Cuts.{cut_fits, same_count}
 use Rattle.box_core.specs.Ranges.{AreOfLength, ClaimFits, HaveOneLength, LineFits, StepsFit, first_length, recipes_of}

@@ -4,7 +4,7 @@ use Rattle.std.specs.Prelude.{Option, Some, None}
 use Rattle.std.specs.List.{AllByRecursion, Contains}
 use Rattle.std.specs.Ordering.{is_eq}
 use Rattle.std.specs.Cmp.{tied_itself}
-use Rattle.std.proofs.lemmas.Bool.{false≢true, or_right}
+use Rattle.std.proofs.lemmas.Bool.{false≢true}
 use Rattle.std.proofs.lemmas.List.Elements.{All-from_recursion, All-nil, All-weaker}
 use Rattle.std.proofs.lemmas.Map.Views.{Contains-from_any}
 use Rattle.std.proofs.lemmas.Slice.Eq.{bytes_eq-Decides}
@@ -12,15 +12,15 @@ use Rattle.box_specs.specs.declared.certificate.CertLine.{CertLine}
 use Rattle.box_specs.specs.declared.certificate.Claim.{Claim}
 use Rattle.box_specs.specs.Answer.{IsAnswer, IsFirstMatch, answer_of, is_match}
 use Rattle.box_specs.specs.Canonical.{IsCanonical, IsClaim, IsPart, canonical_lines, is_judged, line_of}
-use Rattle.box_specs.specs.Landscape.{IsLawful, Land, is_before, is_final, is_shut, key_of, IsSound}
-use Rattle.box_specs.specs.Span.{IsWithin, Span, is_single}
+use Rattle.box_specs.specs.Landscape.{IsLawful, Land, is_before, is_final, key_of, IsSound}
+use Rattle.box_specs.specs.Span.{IsWithin, Span}
 use Rattle.box_specs.specs.Splits.{cut_of, lower_half, upper_half}
 use Rattle.box_specs.specs.Tree.{Spot, Tree, count, fork, is_needed, leaf, need, rank, root, spot_cmp, spot_of, tree_of}
 use Rattle.box_specs.specs.Validity.{corners, is_listed, is_pass_line, is_undecided_line}
 use Rattle.box_specs.proofs.Answers.{never_before_itself}
 use Rattle.box_specs.proofs.Cuts.{not_both as not_both_halves}
-use Rattle.box_search.specs.Frontier.{IsAt, IsCovered, IsUndecided, State, done_in, is_done, with_entry, without}
-use Rattle.box_search.proofs.Frontier.{IsChild, Turned, corner_in_box, entry_cases, equal_test, part_trans, same_part, spot_same, without_cases}
+use Rattle.box_search.specs.State.{IsAt, IsCovered, IsUndecided, State, done_in, is_done, with_entry, without}
+use Rattle.box_search.proofs.Judging.{IsChild, Turned, corner_in_box, entry_cases, equal_test, part_trans, same_part, spot_same, without_cases}
 use Rattle.std.proofs.lemmas.Option.{none-some}
 use Rattle.box_search.proofs.Orders.{before_by_key, before_on, key_not_before, next_deeper, not_after, not_both, not_deeper, not_itself, on_before, precedes, spot_up, spots_are_ordered}
 use Rattle.box_specs.proofs.Keys.{tied_keys}

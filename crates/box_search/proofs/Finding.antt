@@ -19,17 +19,18 @@ use Rattle.box_specs.proofs.Spans.{within_inside}
 use Rattle.box_specs.specs.Tree.{Spot, Tree, count, fork, leaf, need, rank, root, spot_cmp, spot_of, tree_of}
 use Rattle.box_specs.specs.Validity.{is_pass_line, is_undecided_line}
 use Rattle.box_search.specs.Answers.{IsFound, halves_by, is_open, next_listed}
-use Rattle.box_search.specs.Frontier.{State, done_in, is_done, with_entry, without}
-use Rattle.box_search.specs.Hand.{Going, IsAhead, IsFirst, halves_of, lower_of, with_hand, with_upper}
+use Rattle.box_search.specs.State.{State, done_in, is_done, with_entry, without}
+use Rattle.box_search.specs.Frontier.{Going, IsAhead, IsFirst, halves_of, lower_of, waits_in, with_hand, with_upper}
 use Rattle.box_search.specs.Nodes.{Arena, blank, node_at, part_of, parts, write_at}
 use Rattle.box_search.specs.Places.{at, place, place_cmp}
-use Rattle.box_search.specs.declared.hand.Halves.{Halves}
-use Rattle.box_search.specs.declared.hand.Waiting.{Waiting}
+use Rattle.box_search.specs.declared.frontier.Frontier.{Frontier}
+use Rattle.box_search.specs.declared.frontier.Halves.{Halves}
+use Rattle.box_search.specs.declared.frontier.Waiting.{Waiting}
 use Rattle.box_search.specs.declared.nodes.Node.{Node}
 use Rattle.box_search.specs.declared.place.Place.{Place}
 use Rattle.box_search.proofs.Arenas.{added, apart, entry_here, entry_other, no_entry, shows, written}
 use Rattle.box_search.proofs.Endings.{canonical_at, equal_itself, first_state, floor_need, lower_ahead, next_rank, none_is, none_need, ranked, turned_fork, turned_leaf, two_places, with_halves, won_is, won_need}
-use Rattle.box_search.proofs.Frontier.{corner_in_box, entry_cases, same_part, spot_same, step}
+use Rattle.box_search.proofs.Judging.{corner_in_box, entry_cases, same_part, spot_same, step}
 use Rattle.std.proofs.lemmas.Option.{none-some}
 use Rattle.box_search.proofs.Orders.{precedes, precedes_swapped}
 use Rattle.box_search.proofs.Ranks.{at_sound, at_tree, whole}
@@ -402,19 +403,20 @@ first_arena l = record {
   links = λ e v i f x h k j. absurd (none-some x h);
 }
 
-pub begins : (l : Land) → IsLawful l → (hand : Option (Place × Waiting)) (m : Spot → Option Waiting) (nodes : List Node) (listed : List (List ℕ))
-    → hand ≡ Some (place (spot_of l 0 l.top), record { part = l.top; node = 0 }) → ((z : Spot) → m z ≡ None) → nodes ≡ blank ∷ [] → listed ≡ [] → Going l hand m nodes 0 listed
-begins l lawful hand m nodes listed h empty k e =
+pub begins : (l : Land) → IsLawful l → (frontier : Frontier) (nodes : List Node) (listed : List (List ℕ))
+    → frontier.hand ≡ Some (place (spot_of l 0 l.top), record { part = l.top; node = 0 }) → ((z : Spot) → at frontier.map z ≡ None) → nodes ≡ blank ∷ [] → listed ≡ []
+    → Going l frontier nodes 0 listed
+begins l lawful frontier nodes listed h empty k e =
     let First : Place × Waiting = (place (spot_of l 0 l.top), record { part = l.top; node = 0 }) in
-    let M : m ≡ (λ z. None) = λ i z. empty z i in
-    let start : Going l (Some First) (λ z. None) (blank ∷ []) 0 [] = record {
+    let M : at frontier.map ≡ (λ z. None) = λ i z. empty z i in
+    let Waits : Spot → Option Waiting = with_hand (Some First) (λ z. None) in
+    let all : waits_in frontier ≡ Waits = λ i. with_hand (h i) (M i) in
+    record {
       last = None;
       g = λ z. None;
-      state = subst (λ f. State l f (λ z. None) None 0 [] None) (sym (parts_entry (spot_of l 0 l.top) (record { part = l.top; node = 0 }) (λ z. None))) (first_state l lawful);
-      ahead = λ z b x. absurd (none-some b x);
-      arena = first_arena l;
-      few = omega arith;
-    } in
-    subst (λ x. Going l x m nodes 0 listed) (sym h) (subst (λ x. Going l (Some First) x nodes 0 listed) (sym M)
-    (subst (λ x. Going l (Some First) (λ z. None) x 0 listed) (sym k)
-    (subst (λ x. Going l (Some First) (λ z. None) (blank ∷ []) 0 x) (sym e) start)))
+      state = subst (λ f. State l (parts f) (λ z. None) None 0 listed None) (sym all) (subst (λ rs. State l (parts Waits) (λ z. None) None 0 rs None) (sym e)
+          (subst (λ f. State l f (λ z. None) None 0 [] None) (sym (parts_entry (spot_of l 0 l.top) (record { part = l.top; node = 0 }) (λ z. None))) (first_state l lawful)));
+      ordered = subst (λ x. IsAhead x (at frontier.map)) (sym h) (λ z b x. absurd (none-some b (sym (empty z) ∙ x)));
+      arena = subst (λ f. Arena l f (λ z. None) nodes) (sym all) (subst (λ ns. Arena l Waits (λ z. None) ns) (sym k) (first_arena l));
+      few = omega (arith, ap length k);
+    }

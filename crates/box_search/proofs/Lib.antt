@@ -3,8 +3,8 @@ pub mod Certs
 mod Emitting
 mod Endings
 mod Finding
-mod Frontier
-mod Hands
+mod Judging
+mod Taking
 mod Orders
 pub mod Ranks
 pub mod Results

@@ -1,8 +1,7 @@
 -- The order in which boxes are judged.
-use Rattle.std.proofs.Common.{◌≡◌, ◌<◌, ◌≤◌, not, ℕ, List, Bool, true, false, nat_lt, refl, sym, ap, subst, ◌∙◌, arith}
+use Rattle.std.proofs.Common.{◌≡◌, ◌<◌, ◌≤◌, not, ℕ, List, true, false, nat_lt, refl, sym, ap, subst, ◌∙◌, arith}
 use Rattle.std.specs.Prelude.{Option, Some, None}
-use Rattle.std.proofs.lemmas.Bool.{false≢true, true≢false}
-use Rattle.std.proofs.lemmas.Bool.Decides.{nat_tests}
+use Rattle.std.proofs.lemmas.Bool.{false≢true}
 use Rattle.box_specs.specs.Answer.{answer_of}
 use Rattle.box_specs.specs.Canonical.{IsPart, is_judged}
 use Rattle.box_specs.specs.Landscape.{IsLawful, Land, is_before, IsSound}

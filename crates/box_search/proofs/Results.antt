@@ -3,7 +3,6 @@ use Rattle.std.proofs.Common.{◌≡◌, ◌+◌, ◌-◌, ◌<◌, ◌≤◌, �
 use Rattle.std.specs.Prelude.{Option, Some, None}
 use Rattle.std.specs.Option.{option_or}
 use Rattle.std.proofs.lemmas.Bool.{cases_lt, false≢true}
-use Rattle.std.proofs.lemmas.Bool.Decides.{nat_tests}
 use Rattle.box_specs.specs.declared.certificate.Claim.{Claim}
 use Rattle.box_specs.specs.declared.certificate.Claim.TheVariants.{Floor, Match, NoMatch}
 use Rattle.box_specs.specs.Answer.{answer_of}
@@ -15,7 +14,7 @@ use Rattle.box_specs.specs.Validity.{corners, is_undecided_line}
 use Rattle.box_search.specs.Laws.{ResultIsCanonical, ResultIsOne}
 use Rattle.box_search.specs.Result.{answer_claim, claim_at, corner_cost, first_box, floor_at, search_result}
 use Rattle.box_specs.specs.Order.{in_order}
-use Rattle.box_search.proofs.Frontier.{count_more}
+use Rattle.box_search.proofs.Judging.{count_more}
 use Rattle.box_search.proofs.Orders.{IsTied, not_itself, precedes, tied}
 use Rattle.box_search.proofs.Ranks.{At, rank_lt, whole}
 use Rattle.box_specs.proofs.Tests.{above, at_most, by, ge_test, le_test, lt_test, not_le_test, test_lt, tested}

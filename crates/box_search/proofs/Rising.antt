@@ -12,7 +12,6 @@ use Rattle.box_specs.specs.Landscape.{Land, is_before, key_of}
 use Rattle.box_specs.specs.Span.{same_steps}
 use Rattle.box_specs.specs.Validity.{is_listed}
 use Rattle.box_specs.proofs.Answers.{before_trans, never_before_itself, not_both_before}
-use Rattle.box_specs.proofs.Tests.{by}
 use Rattle.box_specs.proofs.Keys.{tied_keys}
 
 or_cases : (a b : Bool) → a || b ≡ true → (a ≡ true) ⊎ (b ≡ true)

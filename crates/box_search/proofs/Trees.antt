@@ -11,7 +11,7 @@ use Rattle.box_specs.specs.Splits.{cut_of, lower_half, upper_half}
 use Rattle.box_specs.specs.Tree.{Tree, count, fork, grow, leaf, root, spread, tree_of}
 use Rattle.box_search.specs.Trees.{IsSoundTree}
 use Rattle.box_specs.proofs.Cuts.{Cuts, cut_fits, from_lower, from_upper, in_lower, in_upper, lower_is_box, not_both, upper_is_box}
-use Rattle.box_specs.proofs.Spans.{corner_within, inside_itself, up_to_both, up_to_itself, up_to_trans, within_inside}
+use Rattle.box_specs.proofs.Spans.{inside_itself, up_to_itself, up_to_trans, within_inside}
 
 -- a box of one recipe has two equal corners
 pub single_corners : (b : Span) → is_single b ≡ true → b.lo ≡ b.hi

@@ -14,7 +14,7 @@ use Rattle.box_specs.specs.Tree.{Spot}
 use Rattle.box_specs.specs.Validity.{is_undecided_line}
 use Rattle.box_specs.proofs.Cuts.{cut_fits, from_lower, from_upper, lower_is_box, upper_is_box}
 use Rattle.box_search.specs.Answers.{is_open, is_undecided}
-use Rattle.box_search.specs.Frontier.{with_entry}
+use Rattle.box_search.specs.State.{with_entry}
 use Rattle.box_search.specs.Places.{at, place, place_cmp}
 use Rattle.box_search.specs.declared.place.Place.{Place}
 use Rattle.box_specs.proofs.Spans.{up_to_itself, up_to_trans}

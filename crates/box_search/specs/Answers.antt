@@ -1,16 +1,15 @@
 -- What is done with a box once it is judged, and what a search has found when it ends.
-use Rattle.std.specs.Prelude.{◌≡◌, ◌+◌, ◌*◌, ◌≤◌, ℕ, Bool, true, false, Option, Some, None, List, [], ◌∷◌, ◌++◌, length, if◌then◌else◌}
-use Rattle.box_specs.specs.declared.certificate.CertLine.{CertLine}
+use Rattle.std.specs.Prelude.{◌+◌, ◌*◌, ◌≤◌, ℕ, Bool, true, false, Option, Some, None, List, [], ◌∷◌, ◌++◌, length, if◌then◌else◌}
 use Rattle.box_specs.specs.declared.certificate.Claim.{Claim}
 use Rattle.box_specs.specs.declared.judged.Judged.{Judged}
 use Rattle.box_specs.specs.declared.judged.Judged.TheVariants.{Fail, Limit, Pass, StillOpen, Undecided}
-use Rattle.box_specs.specs.Canonical.{IsCanonical, IsPart, canonical_lines, is_judged, line_of}
+use Rattle.box_specs.specs.Canonical.{IsCanonical, canonical_lines, is_judged}
 use Rattle.box_specs.specs.Landscape.{Land}
 use Rattle.box_specs.specs.Span.{Span}
-use Rattle.box_specs.specs.Tree.{Spot, Tree, root, spot_of, tree_of}
-use Rattle.box_search.specs.Hand.{halves_of}
+use Rattle.box_specs.specs.Tree.{tree_of}
+use Rattle.box_search.specs.Frontier.{halves_of}
 use Rattle.box_search.specs.Nodes.{Shows}
-use Rattle.box_search.specs.declared.hand.Halves.{Halves}
+use Rattle.box_search.specs.declared.frontier.Halves.{Halves}
 use Rattle.box_search.specs.declared.nodes.Node.{Node}
 
 abbrev pub is_open : Judged → Bool

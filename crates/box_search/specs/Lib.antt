@@ -1,8 +1,8 @@
 pub mod Answers
 pub mod Frontier
-pub mod Hand
 pub mod Laws
 pub mod Nodes
 pub mod Places
 pub mod Result
+pub mod State
 pub mod Trees

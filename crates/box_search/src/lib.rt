@@ -3,7 +3,7 @@
 
 mod emit;
 mod find;
-mod hand;
+mod frontier;
 pub mod laws;
 mod nodes;
 mod outcome;

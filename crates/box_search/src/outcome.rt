@@ -45,13 +45,12 @@ pub fn search<L: Landscape>(
     let Found {
         claim,
         boxes,
-        undecided,
-        nodes,
+        tally,
     } = found;
-    let lines = emit(alloc, land, nodes.as_slice(), boxes)?;
+    let lines = emit(alloc, land, tally.nodes.as_slice(), boxes)?;
     let cert = Cert {
         claim,
-        undecided: StepsList::of(undecided),
+        undecided: StepsList::of(tally.undecided),
         lines: LineList::of(lines),
     };
     Ok(Outcome { cert, boxes })

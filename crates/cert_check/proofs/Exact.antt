@@ -1,12 +1,9 @@
 -- A certificate of one whole tree is valid exactly where nothing fails.
-use Rattle.std.proofs.Common.{◌≡◌, ◌+◌, ◌<◌, ◌≤◌, ℕ, zero, suc, List, [], ◌∷◌, Bool, true, false, length, get_or, refl, ap, subst, ◌∙◌, arith}
-use Rattle.std.specs.Prelude.{All, Option, Some, None}
-use Rattle.std.specs.List.{AllByRecursion, AllPairs, Contains}
-use Rattle.std.specs.Cmp.Lexicographic.{nat_list_eq_equiv}
+use Rattle.std.proofs.Common.{◌≡◌, ◌+◌, ◌<◌, ℕ, zero, suc, List, [], ◌∷◌, Bool, true, false, length, get_or, refl, ap, subst, ◌∙◌, arith}
+use Rattle.std.specs.Prelude.{All, None}
+use Rattle.std.specs.List.{AllByRecursion, Contains}
 use Rattle.std.proofs.lemmas.List.{get_or_default}
 use Rattle.std.proofs.lemmas.List.Elements.{All-weaker, recursion_from_All}
-use Rattle.std.proofs.lemmas.Map.Views.{Contains-from_any, list_any-from_Contains}
-use Rattle.std.proofs.lemmas.Slice.Eq.{bytes_eq-Decides}
 use Rattle.box_specs.specs.declared.certificate.CertLine.{CertLine}
 use Rattle.box_specs.specs.declared.certificate.Claim.{Claim}
 use Rattle.box_specs.specs.declared.certificate.Cutoff.{Cutoff}
@@ -14,7 +11,7 @@ use Rattle.box_specs.specs.declared.certificate.Cutoff.TheVariants.{Never}
 use Rattle.box_specs.specs.Landscape.{Land, is_before}
 use Rattle.box_specs.specs.Order.{IsRising}
 use Rattle.box_specs.specs.Span.{IsBox, IsWithin}
-use Rattle.box_specs.specs.Validity.{FailsUnlessValid, HaveLines, IsValid, are_trees, corners, cutoff_of, first_failure, is_early, is_in_grid, is_listed, is_pass_line, is_undecided_line, line_failure, list_failure, matched_of, or_next, unmarked_failure}
+use Rattle.box_specs.specs.Validity.{FailsUnlessValid, HaveLines, IsValid, are_trees, corners, cutoff_of, first_failure, is_early, is_listed, is_pass_line, is_undecided_line, list_failure, matched_of, or_next, unmarked_failure}
 use Rattle.cert_check.proofs.Faults.{hold_if, no_failure, or_none}
 use Rattle.cert_check.proofs.Within.{IsGood, ListIsOrdered, list_holds, list_is_ordered, or_wrong, within_test}
 use Rattle.box_specs.proofs.Lists.{listed_by, listed_of}

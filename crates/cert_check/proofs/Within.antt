@@ -1,13 +1,12 @@
 -- Recipes within a box, as the test finds them.
-use Rattle.std.proofs.Common.{◌≡◌, if◌then◌else◌, subst, ◌+◌, ◌<◌, ◌≤◌, ◌&&◌, ℕ, zero, suc, List, [], ◌∷◌, Bool, true, false, nat_le, length, get_or, drop, add-one, refl, sym, ap, ◌∙◌, arith}
+use Rattle.std.proofs.Common.{◌≡◌, if◌then◌else◌, subst, ◌+◌, ◌<◌, ◌&&◌, ℕ, zero, suc, List, [], ◌∷◌, Bool, true, false, nat_le, length, get_or, drop, add-one, refl, sym, ap, ◌∙◌, arith}
 use Rattle.std.proofs.Math.Seq.{drop-cons}
 use Rattle.std.proofs.lemmas.Bool.{and_parts}
-use Rattle.std.proofs.lemmas.Bool.Decides.{nat_tests}
 use Rattle.price_grid.specs.Grid.{IsUpTo}
 use Rattle.std.specs.Prelude.{Option, Some, None}
 use Rattle.std.specs.List.{AllByRecursion}
 use Rattle.box_specs.specs.declared.certificate.Cutoff.{Cutoff}
-use Rattle.box_specs.specs.declared.certificate.Cutoff.TheVariants.{After, From, Never}
+use Rattle.box_specs.specs.declared.certificate.Cutoff.TheVariants.{Never}
 use Rattle.box_specs.specs.declared.certificate.Claim.{Claim}
 use Rattle.box_specs.specs.declared.certificate.Claim.TheVariants.{Floor, Match, NoMatch}
 use Rattle.box_specs.specs.declared.certificate.Why.{Why}

@@ -1,13 +1,7 @@
-use Rattle.std.proofs.Common.{◌++◌, ap, subst, sym, ◌∙◌}
-use Rattle.box_specs.specs.Canonical.{canonical_lines, is_judged}
-use Rattle.box_specs.specs.Span.{IsInside, Span, lists}
-use Rattle.box_specs.specs.Tree.{tree_of}
-use Rattle.box_search.specs.Places.{at}
+use Rattle.std.proofs.Common.{◌∙◌}
+use Rattle.box_specs.specs.Span.{lists}
 use Rattle.box_search.proofs.Certs.{made}
-use Rattle.box_search.proofs.Ranks.{whole}
 use Rattle.box_search.proofs.Results.{one_result}
-use Rattle.box_search.proofs.Trees.{whole_root}
-use Rattle.box_specs.proofs.Spans.{inside_itself}
 use Rattle.box_search.proofs.outcome.search.Goals as goal
 
 pub invariant_of-cert : goal.invariant_of-cert
@@ -16,7 +10,7 @@ invariant_of-cert g c =
     let lawful = c.top-top.ensures.lawful in
     let found = c.in_ok-found.ensures.found in
     let n = c.in_ok-found.found.boxes in
-    let m = made l lawful c.args.budget c.in_ok-found.found.claim (lists c.in_ok-found.found.undecided.items) n c.in_ok-found.found.nodes.items found c.requires.few c.of.result c.of-2.result c.of.ensures
+    let m = made l lawful c.args.budget c.in_ok-found.found.claim (lists c.in_ok-found.found.tally.undecided.items) n c.in_ok-found.found.tally.nodes.items found c.requires.few c.of.result c.of-2.result c.of.ensures
     (c.of-2.ensures ∙ c.in_ok-lines.ensures) in
     record { whole = m.valid.whole; short = m.short; few = m.few; one_length = m.one_length; numbers = m.numbers }
 
@@ -26,7 +20,7 @@ returns-clause-canonical g c =
     let lawful = c.top-top.ensures.lawful in
     let found = c.in_ok-found.ensures.found in
     let n = c.in_ok-found.found.boxes in
-    (made l lawful c.args.budget c.in_ok-found.found.claim (lists c.in_ok-found.found.undecided.items) n c.in_ok-found.found.nodes.items found c.requires.few c.of.result c.of-2.result c.of.ensures
+    (made l lawful c.args.budget c.in_ok-found.found.claim (lists c.in_ok-found.found.tally.undecided.items) n c.in_ok-found.found.tally.nodes.items found c.requires.few c.of.result c.of-2.result c.of.ensures
     (c.of-2.ensures ∙ c.in_ok-lines.ensures)).canonical
 
 pub returns-clause-is : goal.returns-clause-is
@@ -38,5 +32,5 @@ returns-clause-valid g c =
     let lawful = c.top-top.ensures.lawful in
     let found = c.in_ok-found.ensures.found in
     let n = c.in_ok-found.found.boxes in
-    (made l lawful c.args.budget c.in_ok-found.found.claim (lists c.in_ok-found.found.undecided.items) n c.in_ok-found.found.nodes.items found c.requires.few c.of.result c.of-2.result c.of.ensures
+    (made l lawful c.args.budget c.in_ok-found.found.claim (lists c.in_ok-found.found.tally.undecided.items) n c.in_ok-found.found.tally.nodes.items found c.requires.few c.of.result c.of-2.result c.of.ensures
     (c.of-2.ensures ∙ c.in_ok-lines.ensures)).valid

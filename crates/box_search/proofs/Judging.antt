@@ -7,7 +7,7 @@ use Rattle.std.specs.Cmp.{tied_itself}
 use Rattle.std.specs.Cmp.Lexicographic.{slice_cmp}
 use Rattle.std.specs.declared.cmp.Ordering.{Ordering}
 use Rattle.std.specs.declared.cmp.Ordering.TheVariants.{Equal, Greater, Less}
-use Rattle.std.proofs.lemmas.Bool.{cases_lt, false≢true, or_right, true≢false}
+use Rattle.std.proofs.lemmas.Bool.{cases_lt, false≢true, true≢false}
 use Rattle.std.proofs.lemmas.List.Quantifiers.{all_pairs_push}
 use Rattle.std.proofs.lemmas.List.Elements.{All-get_or, All-push, All-weaker, Contains-append_left, Contains-push}
 use Rattle.price_grid.specs.Order.{key_cmp}
@@ -15,13 +15,13 @@ use Rattle.std.proofs.lemmas.Option.{none-some}
 use Rattle.box_specs.specs.declared.certificate.CertLine.{CertLine}
 use Rattle.box_specs.specs.Canonical.{IsPart, line_of}
 use Rattle.box_specs.specs.Order.{IsRising}
-use Rattle.box_specs.specs.Landscape.{IsLawful, Land, is_before, is_shut, key_of, IsSound}
-use Rattle.box_specs.specs.Span.{IsInside, IsWithin, Span, is_single}
+use Rattle.box_specs.specs.Landscape.{IsLawful, Land, is_before, key_of, IsSound}
+use Rattle.box_specs.specs.Span.{IsInside, IsWithin, Span}
 use Rattle.box_specs.specs.Splits.{cut_of, lower_half, upper_half}
 use Rattle.box_specs.specs.Tree.{Spot, Tree, count, fork, leaf, root, spot_cmp, spot_of, tree_of}
 use Rattle.box_specs.specs.Validity.{is_pass_line, is_undecided_line}
 use Rattle.box_specs.proofs.Cuts.{from_lower, from_upper, in_lower, in_upper, not_both as not_both_halves}
-use Rattle.box_search.specs.Frontier.{IsAt, IsCovered, IsUndecided, State, done_in, is_done, with_entry, without}
+use Rattle.box_search.specs.State.{IsAt, IsCovered, IsUndecided, State, done_in, is_done, with_entry, without}
 use Rattle.box_search.proofs.Orders.{IsTied, equal_spot, key_not_before, not_after, not_both, not_itself, on_before, precedes, spots_are_ordered, tied}
 use Rattle.box_specs.proofs.Keys.{equal_one, equal_two, same_list, same_number, tied_keys}
 use Rattle.box_search.proofs.Ranks.{alike, at_sound, at_tree, below_after, whole}
