@@ -4,6 +4,7 @@ mod Emitting
 mod Endings
 mod Finding
 mod Judging
+mod Matches
 mod Taking
 mod Orders
 pub mod Ranks

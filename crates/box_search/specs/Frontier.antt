@@ -57,12 +57,12 @@ module _ (l : Land) where
   abbrev pub halves_of : ℕ → Span → ℕ → Halves
   halves_of depth b next = record { lower = half_at depth (lower_half b (cut_of b)) next; upper = half_at depth (upper_half b (cut_of b)) (next + 1) }
 
--- the invariant of the loop of the search: no judged box passes, a box in hand stands before the
--- map, and the nodes have the lines of the judged boxes
-pub record Going (l : Land) (frontier : Frontier) (nodes : List Node) (n : ℕ) (listed : List (List ℕ)) : Type 0 where
+-- the invariant of the loop of the search: a box in hand stands before the map, and the nodes have
+-- the lines of the judged boxes
+pub record Going (l : Land) (frontier : Frontier) (nodes : List Node) (n : ℕ) (matched listed : List (List ℕ)) : Type 0 where
   pub last : Option Spot
   pub g : Spot → Option CertLine
-  pub state : State l (parts (waits_in frontier)) g last n listed None
+  pub state : State l (parts (waits_in frontier)) g last n matched listed
   pub ordered : IsOrdered frontier
   pub arena : Arena l (waits_in frontier) g nodes
   pub few : length nodes ≤ 2 * n + 1

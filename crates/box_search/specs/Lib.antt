@@ -1,4 +1,5 @@
 pub mod Answers
+pub mod Found
 pub mod Frontier
 pub mod Laws
 pub mod Nodes

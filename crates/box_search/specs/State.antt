@@ -42,29 +42,32 @@ module _ (l : Land) where
     pub below : IsPart l above depth e v
     pub waits : f (spot_of l depth (root above)) ≡ Some (root above)
 
-  -- the recipe of a judged undecided box
-  pub record IsUndecided (last : Option Spot) (r : List ℕ) : Type 0 where
+  -- the recipe of a judged box whose line passes a test
+  pub record IsRecipe (test : CertLine → Bool) (last : Option Spot) (r : List ℕ) : Type 0 where
     pub depth : ℕ
     pub part : Tree
     pub at : IsPart l (tree_of l) 0 depth part
     pub judged : done_in last depth (root part) ≡ true
-    pub line : is_undecided_line (line_of l (root part)) ≡ true
+    pub line : test (line_of l (root part)) ≡ true
     pub corner : (root part).lo ≡ r
+
+  -- the recipes of the judged boxes whose lines pass a test, in their order; n boxes are judged
+  pub record HasRecipes (test : CertLine → Bool) (last : Option Spot) (n : ℕ) (recipes : List (List ℕ)) : Type 0 where
+    pub rising : IsRising l recipes
+    pub each : All (IsRecipe test last) recipes
+    pub every : (e : ℕ) (v : Tree) → IsPart l (tree_of l) 0 e v → done_in last e (root v) ≡ true → test (line_of l (root v)) ≡ true → Contains recipes (root v).lo
+    pub short : length recipes ≤ n
 
   -- The invariant of a search: the n boxes at places up to `last` are judged, and g has their
   -- lines. Each other box waits, or lies below one that waits. Two boxes that wait have no recipe
-  -- in common. The undecided recipes are listed in their order. Where a judged box passes, `won` is
-  -- its recipe
-  pub record State (f : Spot → Option Span) (g : Spot → Option CertLine) (last : Option Spot) (n : ℕ) (listed : List (List ℕ)) (won : Option (List ℕ)) : Type 0 where
+  -- in common. The passing recipes and the undecided ones are those of the judged boxes
+  pub record State (f : Spot → Option Span) (g : Spot → Option CertLine) (last : Option Spot) (n : ℕ) (matched listed : List (List ℕ)) : Type 0 where
     pub waits : (z : Spot) (b : Span) → f z ≡ Some b → IsAt z b
     pub later : (z : Spot) (b : Span) → f z ≡ Some b → is_done last z ≡ false
     pub disjoint : (z y : Spot) (b c : Span) (r : List ℕ) → f z ≡ Some b → f y ≡ Some c → IsWithin r b → IsWithin r c → z ≡ y
     pub covers : (e : ℕ) (v : Tree) → IsPart l (tree_of l) 0 e v → done_in last e (root v) ≡ false → IsCovered f e v
     pub counted : count (done_in last) 0 (tree_of l) ≡ n
     pub written : (e : ℕ) (v : Tree) → IsPart l (tree_of l) 0 e v → g (spot_of l e (root v)) ≡ (if done_in last e (root v) then Some (line_of l (root v)) else None)
-    pub clean : (e : ℕ) (v : Tree) → IsPart l (tree_of l) 0 e v → done_in last e (root v) ≡ true → is_pass_line (line_of l (root v)) ≡ true → won ≡ Some (root v).lo
-    pub rising : IsRising l listed
-    pub each : All (IsUndecided last) listed
-    pub every : (e : ℕ) (v : Tree) → IsPart l (tree_of l) 0 e v → done_in last e (root v) ≡ true → is_undecided_line (line_of l (root v)) ≡ true → Contains listed (root v).lo
+    pub passing : HasRecipes is_pass_line last n matched
+    pub undecided : HasRecipes is_undecided_line last n listed
     pub shallow : (z : Spot) (b : Span) → f z ≡ Some b → z.depth ≤ n
-    pub short : length listed ≤ n

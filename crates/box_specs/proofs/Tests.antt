@@ -31,6 +31,9 @@ ge_test m n h = grind (arith, nat_tests, h)
 pub tested : (m n : ℕ) → m == n ≡ true → m ≡ n
 tested m n h = grind (arith, nat_tests, h)
 
+pub less_unless : (m n : ℕ) → m == n ≡ false → m ≤ n → m < n
+less_unless m n h k = grind (arith, nat_tests, h, k)
+
 pub not_true : (b : Bool) → not b ≡ true → b ≡ false
 not_true true h = absurd (false≢true h)
 not_true false h = refl
