@@ -1,10 +1,10 @@
 -- Dyes with their doses, by index, and the doses of steps.
-use Rattle.std.proofs.Common.{◌≡◌, ◌+◌, ◌*◌, ◌≤◌, ◌<◌, ℕ, zero, suc, List, [], ◌∷◌, All, length, get_or, take, ◌++◌, refl, ap, sym, subst, ◌∙◌, arith}
+use Rattle.std.proofs.Common.{◌≡◌, ◌+◌, ◌*◌, ◌≤◌, ◌<◌, ℕ, zero, suc, List, [], ◌∷◌, length, get_or, take, ◌++◌, refl, ap, sym, subst, ◌∙◌, arith}
 use Rattle.std.proofs.lemmas.List.{take_all, take_more}
 use Rattle.interval_specs.specs.Ends.{Ends}
 use Rattle.ks_curves.specs.Dye.{DyeData}
 use Rattle.mix_model.specs.declared.dose.Dose.{Dose}
-use Rattle.mix_model.specs.Mixture.{CanAdd, CanDose, CanMix, CanMixDoses, HaveSteps, IsPortion, Portion, dosed, doses_of, portions}
+use Rattle.mix_model.specs.Mixture.{CanAdd, CanDose, CanMix, CanMixDoses, HaveSteps, IsPortion, Portion, dosed, doses_of}
 
 -- the dye with a dose
 abbrev pub portion : DyeData → Dose → Portion

@@ -10,9 +10,10 @@ use Rattle.interval_specs.proofs.Laws.{le_holds}
 use Rattle.ks_curves.specs.KubelkaMunk.{ks_at}
 use Rattle.ks_curves.specs.Dye.{DyeData}
 use Rattle.ks_curves.specs.Calibration.{addition_by, line_at, numerator_at, square_sum, value_over_by, weighted_addition, weighted_sum}
-use Rattle.mix_model.specs.Base.{base_at}
+use Rattle.mix_model.specs.Base.{IsBase, base_at}
 use Rattle.mix_model.specs.Mixture.{Portion, CanMix, IsPortion, contributions_at, dosed, doses_of, mixture_from, mixture_ks_at, portions}
 use Rattle.mix_model.specs.Samples.{rust}
+use Rattle.mix_model.specs.Sums.{AreSumsOf}
 
 is_weak : Ends → Bool
 is_weak q = int_le q.hi (pos (2 * 10 ^ 6 * 10 ^ 12))
@@ -72,3 +73,8 @@ two_mix = record {
 pub both_mix : (base : List Ends) (dye other : DyeData) → base ≡ base_at (10 ^ 12) (replicate 31 500000) → dye ≡ rust → other ≡ rust
     → CanMix (10 ^ 12) base (dye ∷ other ∷ []) (0 ∷ 0 ∷ []) (0 ∷ 0 ∷ []) (9 ∷ 7 ∷ [])
 both_mix base dye other same is is' = rw (same, is, is') two_mix
+
+pub first_sums : (base : List Ends) (dye other : DyeData) (sums : List Ends) → IsBase (10 ^ 12) base → base ≡ base_at (10 ^ 12) (replicate 31 500000) → dye ≡ rust → other ≡ rust
+    → sums ≡ mixture_ks_at (10 ^ 12) base (portions (dye ∷ other ∷ []) (0 ∷ 0 ∷ []) (0 ∷ 0 ∷ []) (9 ∷ 7 ∷ []))
+    → AreSumsOf (10 ^ 12) sums base (dye ∷ other ∷ []) (0 ∷ 0 ∷ []) (0 ∷ 0 ∷ []) (9 ∷ 7 ∷ [])
+first_sums base dye other sums kept same is is' are = record { is_base = kept; mixes = both_mix base dye other same is is'; are = are }

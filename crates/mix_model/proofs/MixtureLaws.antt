@@ -1,11 +1,10 @@
 -- The laws of mixing, which follow from the laws of its operations.
-use Rattle.std.proofs.Common.{◌≡◌, ◌+◌, ◌*◌, ◌^◌, ◌≤◌, ◌<◌, ◌≤ℤ◌, ◌*ℤ◌, ℕ, pos, List, [], ◌∷◌, All, length, refl, subst, sym, one-mul, ◌∙◌, arith}
+use Rattle.std.proofs.Common.{◌≡◌, ◌+◌, ◌*◌, ◌^◌, ◌≤◌, ◌<◌, ◌≤ℤ◌, ◌*ℤ◌, ℕ, pos, List, [], ◌∷◌, All, length, refl, subst, sym, one-mul, arith}
 use Rattle.std.specs.List.{AllZip}
 use Rattle.std.specs.Int.{int_max}
-use Rattle.std.proofs.lemmas.Int.{ints}
 use Rattle.std.proofs.lemmas.List.{length-map}
 use Rattle.std.proofs.lemmas.List.Elements.{All-cons, All-tail}
-use Rattle.interval_specs.specs.Ends.{Ends, nothing}
+use Rattle.interval_specs.specs.Ends.{Ends}
 use Rattle.interval_specs.specs.Encloses.{Encloses}
 use Rattle.interval_specs.specs.Operations.{cut_low_at, sum_of}
 use Rattle.interval_specs.specs.Ranges.{UpTo}

@@ -1,5 +1,5 @@
 -- An end from which one number is taken away and to which another is added, as code computes it.
-use Rattle.std.proofs.Common.{ℕ, ℤ, ◌≡◌, ◌*◌, ◌^◌, ◌≤◌, ◌<◌, ◌+ℤ◌, ◌-ℤ◌, ◌≤ℤ◌, unsigned_abs, FitsSigned, lit<, subst, sym, arith}
+use Rattle.std.proofs.Common.{ℤ, ◌≡◌, ◌*◌, ◌^◌, ◌≤◌, ◌<◌, ◌+ℤ◌, ◌-ℤ◌, ◌≤ℤ◌, unsigned_abs, FitsSigned, lit<, subst, sym, arith}
 use Rattle.std.specs.Int.{w128}
 use Rattle.std.proofs.lemmas.Int.{ints}
 use lib.Signed.{mag}

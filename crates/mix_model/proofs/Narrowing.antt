@@ -1,5 +1,5 @@
 -- Sums of a box in which the range of one dye is narrowed.
-use Rattle.std.proofs.Common.{◌≡◌, ◌+◌, ◌-◌, ◌*◌, ◌^◌, ◌≤◌, ◌<◌, ◌≤ℤ◌, ◌+ℤ◌, ◌-ℤ◌, ℕ, ℤ, zero, suc, pos, List, [], ◌∷◌, All, Some, length, get_or, set, take, refl, ap, sym, subst, ◌∙◌, arith, mul-le-mul_right}
+use Rattle.std.proofs.Common.{◌≡◌, ◌+◌, ◌*◌, ◌^◌, ◌≤◌, ◌<◌, ◌≤ℤ◌, ◌+ℤ◌, ◌-ℤ◌, ℕ, zero, suc, List, [], ◌∷◌, All, Some, length, get_or, set, take, refl, ap, sym, subst, ◌∙◌, arith, mul-le-mul_right}
 use Rattle.std.specs.Prelude.{slice_get}
 use Rattle.std.specs.List.{AllZip}
 use Rattle.std.proofs.lemmas.Int.{ints}
@@ -12,9 +12,8 @@ use Rattle.interval_specs.specs.Operations.{sum_of}
 use Rattle.interval_specs.proofs.Laws.{encloses_itself, sum_encloses}
 use Rattle.ks_curves.specs.Dye.{DyeData}
 use Rattle.ks_curves.specs.Calibration.{addition_over, addition_range_at}
-use Rattle.mix_model.specs.Base.{IsBase}
 use Rattle.mix_model.specs.Laws.{IsWithin}
-use Rattle.mix_model.specs.Mixture.{CanAdd, CanMix, CanReflect, HaveSteps, IsPortion, Portion, contributions_at, dosed, doses_of, mixture_from, mixture_ks_at, portions}
+use Rattle.mix_model.specs.Mixture.{CanMix, HaveSteps, IsPortion, Portion, contributions_at, dosed, doses_of, mixture_ks_at, portions}
 use Rattle.mix_model.specs.Narrowing.{CanNarrow, narrowed_at, replaced}
 use Rattle.mix_model.specs.Sums.{AreSums, AreSumsOf, HasRange, IsSubrange}
 use Rattle.mix_model.proofs.Doses.{dose, dosed_at, doses_at, length-dosed, length-doses_of, portion}

@@ -11,7 +11,7 @@ use Rattle.interval_specs.proofs.Laws.{inclusion_high}
 use Rattle.ks_curves.specs.declared.kind.Calibration.{Calibration}
 use Rattle.ks_curves.specs.declared.kind.Calibration.TheVariants.{Line}
 use Rattle.ks_curves.specs.Dye.{DyeData}
-use Rattle.ks_curves.specs.Calibration.{addition_by, addition_over, value_over_by}
+use Rattle.ks_curves.specs.Calibration.{addition_by, value_over_by}
 use Rattle.mix_model.specs.Laws.{IsWithin, LineStrength, WeakReflects}
 use Rattle.mix_model.specs.Mixture.{Portion, contributions_at, doses_of, dosed, mixture_from, portions}
 use Rattle.mix_model.specs.Strength.{is_strong, is_too_strong}

@@ -49,10 +49,10 @@ fn mixtures(rt: HostRuntime) {
     assert!(rt; dyed.lo() <= 300_000_000_000 && 300_000_000_000 <= dyed.hi());
     assert!(rt; dyed.hi() - dyed.lo() <= 3);
     let sums = Sums::of(&base, &dyes, &[0], &[0], &[100]);
-    assert_eq!(rt; ends(sums.at(30)), (250_000_000_000, 816_666_666_667));
-    let any = mix(&base, &dyes, &[0], &[0], &[100]).at(30);
+    assert_eq!(rt; ends(sums.at(7)), (250_000_000_000, 816_666_666_667));
+    let any = mix(&base, &dyes, &[0], &[0], &[100]).at(7);
     assert_eq!(rt; ends(any), (dyed.lo(), 500_000_000_000));
-    assert_eq!(rt; ends(sums.spectrum().at(30)), ends(any));
+    assert_eq!(rt; ends(sums.spectrum().at(7)), ends(any));
 }
 
 // The sums of up to four steps of a dye, narrowed to one to four steps.
@@ -61,9 +61,9 @@ fn a_narrowed_box(rt: HostRuntime) {
     let dyes = [rust()];
     let base: BaseCurve<Base> = BaseCurve::of(&even(500_000));
     let sums = Sums::of(&base, &dyes, &[0], &[0], &[4]);
-    assert_eq!(rt; ends(sums.at(30)), (250_000_000_000, 272_666_666_667));
+    assert_eq!(rt; ends(sums.at(7)), (250_000_000_000, 272_666_666_667));
     let narrowed = sums.narrow(&dyes, &[0], 0, (0, 4), (1, 4));
-    assert_eq!(rt; ends(narrowed.at(30)), (255_666_666_666, 272_666_666_667));
+    assert_eq!(rt; ends(narrowed.at(7)), (255_666_666_666, 272_666_666_667));
 }
 
 // Whether two sums are the same at each wavelength.

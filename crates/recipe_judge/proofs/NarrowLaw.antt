@@ -7,12 +7,11 @@ use Rattle.std.proofs.lemmas.List.Elements.{All-tail}
 use Rattle.interval_specs.specs.Ends.{Ends}
 use Rattle.interval_specs.specs.Encloses.{Encloses}
 use Rattle.interval_specs.specs.Ranges.{UpTo}
-use Rattle.interval_specs.proofs.Laws.{encloses_itself}
 use Rattle.cmc_specs.specs.Cmc.{cmc_at}
 use Rattle.cmc_specs.proofs.Law.{cmc_encloses}
 use Rattle.job_file.specs.declared.light.JobLight.{JobLight}
 use Rattle.job_file.specs.Resolve.{ResolvedJob, base_curve}
-use Rattle.metamerism.proofs.DifferenceLaws.{encloses_narrower}
+use Rattle.metamerism.proofs.DifferenceLaws.{encloses_narrower, waves_enclose_themselves}
 use Rattle.mix_model.specs.Base.{IsBase, base_at}
 use Rattle.mix_model.specs.Mixture.{portions}
 use Rattle.mix_model.proofs.MixtureLaws.{base_encloses, length-base, mixed_in_range, mixture_encloses, mixture_narrows}
@@ -28,11 +27,6 @@ use Rattle.recipe_judge.specs.Laws.{DifferencesNarrow}
 use Rattle.recipe_judge.proofs.Boxes.{can_mix, portions_ordered}
 use Rattle.recipe_judge.proofs.FinerLaw.{waves_up_to}
 use Rattle.recipe_judge.proofs.GridBoxes.{portions_within, up_to_last, fewer_is_recipe}
-
--- each wave encloses itself
-waves_enclose_themselves : (n : ℕ) (as' : List Ends) → All (UpTo n) as' → EnclosesWaves 1 as' as'
-waves_enclose_themselves n [] range = tt
-waves_enclose_themselves n (a ∷ as') range = (encloses_itself a (range 0 a (omega arith)).ordered, waves_enclose_themselves n as' (All-tail (UpTo n) a as' range))
 
 lights_narrow : (n : ℕ) (lights : List JobLight) (tables : List WeightTable) (standard sample sample' : List Ends) → 10 ^ 6 ≤ n → All IsWeightTable tables
     → All (UpTo n) standard → All (UpTo n) sample → All (UpTo n) sample' → EnclosesWaves 1 sample sample'

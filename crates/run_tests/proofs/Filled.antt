@@ -1,17 +1,17 @@
 -- Reads of the due names, writes of the file and puts of the text are promised.
-use Rattle.std.proofs.Common.{◌≡◌, ◌⊎◌, inl, inr, ◌≤◌, ◌&&◌, ◌++◌, ℕ, Bool, true, false, List, Option, Some, None, IfSome, IsSome, IsSomeAnd, IsTrue, Result, Ok, Err, length, nat_le, refl, sym, ap, ◌∙◌, subst, arith}
+use Rattle.std.proofs.Common.{◌≡◌, ◌⊎◌, inl, inr, ◌≤◌, ◌&&◌, ℕ, Bool, true, false, List, Option, Some, None, IfSome, IsSome, IsSomeAnd, IsTrue, Ok, length, nat_le, refl, sym, subst, arith}
 use Rattle.std.proofs.lemmas.Bool.Decides.{nat_tests}
 use Rattle.shelf_io.specs.Calls.{none_scheduled}
 use Rattle.shelf_io.specs.Contents.{Contents}
-use Rattle.shelf_io.specs.Filling.{IsFilled, no_files, put_files}
+use Rattle.shelf_io.specs.Filling.{IsFilled}
 use Rattle.shelf_io.specs.MemShelf.{ShelfState, promises_reads, promises_writes, shelf_contents, shelf_view}
 use Rattle.shelf_io.specs.MemSink.{SinkState, promises_puts, sink_view}
 use Rattle.dye_run.specs.Asking.{Asking, IsDue, answers, asks, held_or_missing, result_of}
 use Rattle.dye_run.specs.Commands.{asking_for}
-use Rattle.dye_run.specs.Due.{CanBeRead, up_to_limit}
+use Rattle.dye_run.specs.Due.{up_to_limit}
 use Rattle.dye_run.specs.Endings.{out_of_memory_status, with_written, world}
 use Rattle.dye_run.specs.Forms.{Form}
-use Rattle.dye_run.specs.Outcome.{Outcome, status_of, text_of, written_of}
+use Rattle.dye_run.specs.Outcome.{Outcome, text_of, written_of}
 use Rattle.dye_run.specs.Statuses as statuses
 use Rattle.run_tests.specs.Filled.{IsDone, IsReliable}
 
@@ -28,7 +28,7 @@ asked_held c o first name limit next None e h rest due = cc
 asked_held c o first name limit next (Some bytes) e h rest (inl same) =
     let P : List ℕ → Type 0 = λ n. IsSome (c.file n) in
     let Q : Option (List ℕ) → Type 0 = λ f. IsSome f in
-    subst P (sym same) (subst Q (sym e) unit)
+    subst P (sym same) (subst Q (sym e) refl)
 asked_held c o first name limit next (Some bytes) e h rest (inr (read, can, due)) =
     let P : Option (List ℕ) → Type 0 = λ r. IsDue (Some c) (next r) name in
     rest (up_to_limit limit bytes) h (subst P (read_is limit (c.file first) read bytes e can.known) due)

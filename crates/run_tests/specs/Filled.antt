@@ -12,8 +12,8 @@ use Rattle.dye_run.specs.Forms.{Form}
 use Rattle.dye_run.specs.Outcome.{Outcome, status_of, text_of, written_of}
 
 -- the outcome was written and printed, after the bytes that the sink had taken before
-pub record IsDone (room : ℕ) (files : List (List ℕ × List ℕ)) (o : Outcome) (before after : SinkState) (status : ℕ) (shelf : ShelfState) : Type 0 where
-  pub status : status ≡ status_of o
+pub record IsDone (room : ℕ) (files : List (List ℕ × List ℕ)) (o : Outcome) (before after : SinkState) (returned : ℕ) (shelf : ShelfState) : Type 0 where
+  pub status : returned ≡ status_of o
   pub text : after.taken ≡ before.taken ++ text_of o
   pub file : Some (shelf_contents shelf) ≡ with_written (written_of o) (Some (put_files files (no_files room)))
 

@@ -1,6 +1,5 @@
-use Rattle.std.proofs.Common.{◌≡◌, ◌*◌, ◌∙◌, slice_index_or, arith}
+use Rattle.std.proofs.Common.{◌≡◌, ◌*◌, ◌∙◌, slice_index_or}
 use Rattle.mix_model.specs.declared.dose.Dose.{Dose}
-use Rattle.mix_model.specs.Mixture.{doses_of}
 use Rattle.mix_model.proofs.Doses.{dose, doses_more, doses_end}
 use Rattle.mix_model.proofs.dose.doses_of.Goals as goal
 

@@ -1,4 +1,4 @@
-use Rattle.std.proofs.Common.{ℤ, ◌≡◌, ◌+ℤ◌, ◌-ℤ◌}
+use Rattle.std.proofs.Common.{◌≡◌, ◌+ℤ◌, ◌-ℤ◌}
 use Rattle.interval_specs.proofs.Held.{held_by, is_ends}
 use Rattle.fix_bounds.proofs.Passed.{passed}
 use Rattle.mix_model.specs.Narrowing.{replaced}

@@ -1,61 +1,49 @@
-use Rattle.std.proofs.Common.{◌^◌, ◌∙◌, [], ◌∷◌, ap, refl}
+use Rattle.std.proofs.Common.{◌^◌, ◌∙◌, ℕ, List, [], ◌∷◌, ap, refl, lit≤}
+use Rattle.interval_specs.specs.Ends.{Ends}
+use Rattle.ks_curves.specs.Dye.{DyeData}
 use Rattle.mix_model.specs.Base.{base_at}
-use Rattle.mix_model.specs.Sums.{AreSumsOf}
-use Rattle.mix_model.proofs.Examples.{both_mix}
+use Rattle.mix_model.specs.Sums.{AreNarrowed, AreSumsOf}
+use Rattle.mix_model.proofs.Examples.{both_mix, first_sums}
 use Rattle.mix_model.proofs.tests.boxes_narrowed_in_turn.Goals as goal
-use Rattle.mix_model.proofs.tests.boxes_narrowed_in_turn.Goals.{After-of-first, After-narrow-second, After-narrow-third, After-narrow-last}
 
-first : (c : After-of-first) → AreSumsOf (10 ^ 12) c.of-first.result c.of-base.result (c.rust.result ∷ c.rust-2.result ∷ []) (0 ∷ 0 ∷ []) (0 ∷ 0 ∷ []) (9 ∷ 7 ∷ [])
-first c = record {
-  is_base = c.of-base.ensures.held;
-  mixes = both_mix c.of-base.result c.rust.result c.rust-2.result (c.of-base.ensures.is ∙ ap (base_at (10 ^ 12)) c.even.ensures) c.rust.ensures c.rust-2.ensures;
-  are = c.of-first.ensures.is;
-}
+abbrev are_sums : (sums base : List Ends) (dye other : DyeData) (fewest fewest' most most' : ℕ) → Type 0
+are_sums sums base dye other fewest fewest' most most' = AreSumsOf (10 ^ 12) sums base (dye ∷ other ∷ []) (0 ∷ 0 ∷ []) (fewest ∷ fewest' ∷ []) (most ∷ most' ∷ [])
 
-second : (c : After-narrow-second) → AreSumsOf (10 ^ 12) c.narrow-second.result c.of-base.result (c.rust.result ∷ c.rust-2.result ∷ []) (0 ∷ 0 ∷ []) (1 ∷ 0 ∷ []) (9 ∷ 7 ∷ [])
-second c = c.narrow-second.ensures c.of-base.result (0 ∷ 0 ∷ []) (9 ∷ 7 ∷ []) (first c.After-of-first) (record { fewest = refl; most = refl })
+second : (sums narrowed base : List Ends) (dye other : DyeData) → are_sums sums base dye other 0 0 9 7 → AreNarrowed (10 ^ 12) sums narrowed (dye ∷ other ∷ []) (0 ∷ 0 ∷ []) 0 (0, 9) (1, 9) → are_sums narrowed base dye other 1 0 9 7
+second sums narrowed base dye other a h = h base (0 ∷ 0 ∷ []) (9 ∷ 7 ∷ []) a (record { fewest = refl; most = refl })
 
-third : (c : After-narrow-third) → AreSumsOf (10 ^ 12) c.narrow-third.result c.of-base.result (c.rust.result ∷ c.rust-2.result ∷ []) (0 ∷ 0 ∷ []) (1 ∷ 0 ∷ []) (9 ∷ 3 ∷ [])
-third c = c.narrow-third.ensures c.of-base.result (1 ∷ 0 ∷ []) (9 ∷ 7 ∷ []) (second c.After-narrow-second) (record { fewest = refl; most = refl })
+third : (sums narrowed base : List Ends) (dye other : DyeData) → are_sums sums base dye other 1 0 9 7 → AreNarrowed (10 ^ 12) sums narrowed (dye ∷ other ∷ []) (0 ∷ 0 ∷ []) 1 (0, 7) (0, 3) → are_sums narrowed base dye other 1 0 9 3
+third sums narrowed base dye other a h = h base (1 ∷ 0 ∷ []) (9 ∷ 7 ∷ []) a (record { fewest = refl; most = refl })
 
-last : (c : After-narrow-last) → AreSumsOf (10 ^ 12) c.narrow-last.result c.of-base.result (c.rust.result ∷ c.rust-2.result ∷ []) (0 ∷ 0 ∷ []) (5 ∷ 0 ∷ []) (5 ∷ 3 ∷ [])
-last c = c.narrow-last.ensures c.of-base.result (1 ∷ 0 ∷ []) (9 ∷ 3 ∷ []) (third c.After-narrow-third) (record { fewest = refl; most = refl })
+last : (sums narrowed base : List Ends) (dye other : DyeData) → are_sums sums base dye other 1 0 9 3 → AreNarrowed (10 ^ 12) sums narrowed (dye ∷ other ∷ []) (0 ∷ 0 ∷ []) 0 (1, 9) (5, 5) → are_sums narrowed base dye other 5 0 5 3
+last sums narrowed base dye other a h = h base (1 ∷ 0 ∷ []) (9 ∷ 3 ∷ []) a (record { fewest = refl; most = refl })
 
 pub of-first-requires : goal.of-first-requires
-of-first-requires c = both_mix c.of-base.result c.rust.result c.rust-2.result (c.of-base.ensures.is ∙ ap (base_at (10 ^ 12)) c.even.ensures) c.rust.ensures c.rust-2.ensures
+of-first-requires g c = (lit≤ tt, both_mix c.of-base.result c.rust.result c.rust-2.result (c.of-base.ensures.is ∙ ap (base_at (10 ^ 12)) c.even.ensures) c.rust.ensures c.rust-2.ensures)
 
-pub narrow-second-requires-clause-sums : goal.narrow-second-requires-clause-sums
-narrow-second-requires-clause-sums c = record {
-  base = c.of-base.result;
-  lo = 0 ∷ 0 ∷ [];
-  hi = 9 ∷ 7 ∷ [];
-  are = first ((goal.at.narrow-second-requires-clause-sums c).After-of-first);
-  range_is = record { fewest = refl; most = refl };
-}
+pub narrow-second-requires : goal.narrow-second-requires
+narrow-second-requires g c = (
+  lit≤ tt,
+  (record { base = c.of-base.result; lo = 0 ∷ 0 ∷ []; hi = 9 ∷ 7 ∷ []; are = first_sums c.of-base.result c.rust.result c.rust-2.result c.of-first.result c.of-base.ensures.held (c.of-base.ensures.is ∙ ap (base_at (10 ^ 12)) c.even.ensures) c.rust.ensures c.rust-2.ensures c.of-first.ensures.is; range_is = record { fewest = refl; most = refl } }, record { fewest = lit≤ tt; ordered = lit≤ tt; most = lit≤ tt }),
+)
 
 pub of-second_anew-requires : goal.of-second_anew-requires
-of-second_anew-requires c = (second ((goal.at.of-second_anew-requires c).After-narrow-second)).mixes
+of-second_anew-requires g c = (lit≤ tt, (second c.of-first.result c.narrow-second.result c.of-base.result c.rust.result c.rust-2.result (first_sums c.of-base.result c.rust.result c.rust-2.result c.of-first.result c.of-base.ensures.held (c.of-base.ensures.is ∙ ap (base_at (10 ^ 12)) c.even.ensures) c.rust.ensures c.rust-2.ensures c.of-first.ensures.is) c.narrow-second.ensures).mixes)
 
-pub narrow-third-requires-clause-sums : goal.narrow-third-requires-clause-sums
-narrow-third-requires-clause-sums c = record {
-  base = c.of-base.result;
-  lo = 1 ∷ 0 ∷ [];
-  hi = 9 ∷ 7 ∷ [];
-  are = second ((goal.at.narrow-third-requires-clause-sums c).After-narrow-second);
-  range_is = record { fewest = refl; most = refl };
-}
+pub narrow-third-requires : goal.narrow-third-requires
+narrow-third-requires g c = (
+  lit≤ tt,
+  (record { base = c.of-base.result; lo = 1 ∷ 0 ∷ []; hi = 9 ∷ 7 ∷ []; are = second c.of-first.result c.narrow-second.result c.of-base.result c.rust.result c.rust-2.result (first_sums c.of-base.result c.rust.result c.rust-2.result c.of-first.result c.of-base.ensures.held (c.of-base.ensures.is ∙ ap (base_at (10 ^ 12)) c.even.ensures) c.rust.ensures c.rust-2.ensures c.of-first.ensures.is) c.narrow-second.ensures; range_is = record { fewest = refl; most = refl } }, record { fewest = lit≤ tt; ordered = lit≤ tt; most = lit≤ tt }),
+)
 
 pub of-third_anew-requires : goal.of-third_anew-requires
-of-third_anew-requires c = (third ((goal.at.of-third_anew-requires c).After-narrow-third)).mixes
+of-third_anew-requires g c = (lit≤ tt, (third c.narrow-second.result c.narrow-third.result c.of-base.result c.rust.result c.rust-2.result (second c.of-first.result c.narrow-second.result c.of-base.result c.rust.result c.rust-2.result (first_sums c.of-base.result c.rust.result c.rust-2.result c.of-first.result c.of-base.ensures.held (c.of-base.ensures.is ∙ ap (base_at (10 ^ 12)) c.even.ensures) c.rust.ensures c.rust-2.ensures c.of-first.ensures.is) c.narrow-second.ensures) c.narrow-third.ensures).mixes)
 
-pub narrow-last-requires-clause-sums : goal.narrow-last-requires-clause-sums
-narrow-last-requires-clause-sums c = record {
-  base = c.of-base.result;
-  lo = 1 ∷ 0 ∷ [];
-  hi = 9 ∷ 3 ∷ [];
-  are = third ((goal.at.narrow-last-requires-clause-sums c).After-narrow-third);
-  range_is = record { fewest = refl; most = refl };
-}
+pub narrow-last-requires : goal.narrow-last-requires
+narrow-last-requires g c = (
+  lit≤ tt,
+  (record { base = c.of-base.result; lo = 1 ∷ 0 ∷ []; hi = 9 ∷ 3 ∷ []; are = third c.narrow-second.result c.narrow-third.result c.of-base.result c.rust.result c.rust-2.result (second c.of-first.result c.narrow-second.result c.of-base.result c.rust.result c.rust-2.result (first_sums c.of-base.result c.rust.result c.rust-2.result c.of-first.result c.of-base.ensures.held (c.of-base.ensures.is ∙ ap (base_at (10 ^ 12)) c.even.ensures) c.rust.ensures c.rust-2.ensures c.of-first.ensures.is) c.narrow-second.ensures) c.narrow-third.ensures; range_is = record { fewest = refl; most = refl } }, record { fewest = lit≤ tt; ordered = lit≤ tt; most = lit≤ tt }),
+)
 
 pub of-last_anew-requires : goal.of-last_anew-requires
-of-last_anew-requires c = (last ((goal.at.of-last_anew-requires c).After-narrow-last)).mixes
+of-last_anew-requires g c = (lit≤ tt, (last c.narrow-third.result c.narrow-last.result c.of-base.result c.rust.result c.rust-2.result (third c.narrow-second.result c.narrow-third.result c.of-base.result c.rust.result c.rust-2.result (second c.of-first.result c.narrow-second.result c.of-base.result c.rust.result c.rust-2.result (first_sums c.of-base.result c.rust.result c.rust-2.result c.of-first.result c.of-base.ensures.held (c.of-base.ensures.is ∙ ap (base_at (10 ^ 12)) c.even.ensures) c.rust.ensures c.rust-2.ensures c.of-first.ensures.is) c.narrow-second.ensures) c.narrow-third.ensures) c.narrow-last.ensures).mixes)

@@ -1,6 +1,5 @@
 use Rattle.std.proofs.Common.{inl, rules}
 use Rattle.std.proofs.lemmas.Grind.{common_steps}
-use Rattle.spectral_tables.specs.Curve.{IsCurve}
 use Rattle.mix_model.proofs.tests.even.Goals as goal
 
 pub of-requires : goal.of-requires

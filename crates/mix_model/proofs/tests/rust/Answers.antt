@@ -1,4 +1,4 @@
-use Rattle.std.proofs.Common.{◌≡◌, ◌∙◌, refl}
+use Rattle.std.proofs.Common.{◌∙◌, refl}
 use Rattle.mix_model.specs.Samples.{rust}
 use Rattle.mix_model.proofs.tests.rust.Goals as goal
 

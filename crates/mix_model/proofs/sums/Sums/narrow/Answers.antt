@@ -1,4 +1,4 @@
-use Rattle.std.proofs.Common.{◌≡◌, ◌≤◌, ◌<◌, ◌∙◌, ℕ, List, length, get_or, ap, arith, sym}
+use Rattle.std.proofs.Common.{◌≤◌, ◌<◌, ◌∙◌, ℕ, List, length, get_or, ap, arith}
 use Rattle.interval_specs.specs.Ends.{Ends}
 use Rattle.mix_model.specs.Mixture.{mixture_ks_at, portions}
 use Rattle.mix_model.specs.Sums.{AreSumsOf, HasRange}
