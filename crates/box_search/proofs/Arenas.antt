@@ -1,24 +1,25 @@
 -- The nodes of the boxes that wait and of those that are judged.
-use Rattle.std.proofs.Common.{◌≡◌, ◌+◌, ◌<◌, ◌≤◌, ◌++◌, ℕ, zero, suc, List, [], ◌∷◌, Bool, true, false, length, get_or, set, if◌then◌else◌, length-append, refl, sym, ap, subst, ◌∙◌, ◌⊎◌, inl, inr, arith}
+use Rattle.std.proofs.Common.{◌≡◌, ◌+◌, ◌<◌, ◌++◌, ℕ, zero, suc, List, [], ◌∷◌, Bool, true, false, length, get_or, set, if◌then◌else◌, length-append, refl, sym, ap, subst, ◌∙◌, inl, inr, arith}
 use Rattle.std.specs.Prelude.{Option, Some, None}
 use Rattle.std.specs.Ordering.{is_eq}
-use Rattle.std.proofs.lemmas.Bool.{cases_lt, false≢true, true≢false}
+use Rattle.std.proofs.lemmas.Bool.{false≢true}
 use Rattle.std.proofs.lemmas.List.{get_or-set_other, get_or-set_same, length-set}
 use Rattle.std.proofs.lemmas.Option.{none-some}
 use Rattle.box_specs.specs.declared.certificate.CertLine.{CertLine}
 use Rattle.box_specs.specs.declared.certificate.CertLine.TheVariants.{Dear}
 use Rattle.box_specs.specs.Canonical.{IsPart, is_judged, line_of}
-use Rattle.box_specs.specs.Landscape.{IsLawful, IsSound, Land, is_final}
-use Rattle.box_specs.specs.Span.{IsWithin, Span}
+use Rattle.box_specs.specs.Landscape.{Land, is_final}
+use Rattle.box_specs.specs.Span.{Span}
 use Rattle.box_specs.specs.Splits.{cut_of, lower_half, upper_half}
 use Rattle.box_specs.specs.Tree.{Spot, Tree, fork, leaf, root, spot_cmp, spot_of, tree_of}
-use Rattle.box_search.specs.Frontier.{State, with_entry, without}
-use Rattle.box_search.specs.Nodes.{Arena, Shows, blank, node_at, part_of, parts}
+use Rattle.box_search.specs.State.{with_entry, without}
+use Rattle.box_search.specs.Nodes.{Arena, Shows, blank, node_at}
 use Rattle.box_search.specs.Trees.{IsSoundTree}
-use Rattle.box_search.specs.declared.hand.Waiting.{Waiting}
+use Rattle.box_search.specs.declared.frontier.Waiting.{Waiting}
 use Rattle.box_search.specs.declared.nodes.Node.{Node}
 use Rattle.box_search.proofs.Endings.{equal_itself}
-use Rattle.box_search.proofs.Frontier.{entry_cases, some_same, spot_same, without_cases}
+use Rattle.box_search.proofs.Judging.{entry_cases, spot_same, without_cases}
+use Rattle.box_specs.proofs.Tests.{some_same}
 
 -- the entry of a map at its own place, and at others
 pub entry_here : {X : Type 0} (q : Spot) (x : X) (f : Spot → Option X) → with_entry q x f q ≡ Some x

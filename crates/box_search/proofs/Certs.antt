@@ -1,7 +1,7 @@
 -- The numbers and lengths in the certificate of a search are in the ranges of its type.
-use Rattle.std.proofs.Common.{◌≡◌, ◌+◌, ◌^◌, ◌≤◌, ℕ, zero, suc, List, [], ◌∷◌, Bool, true, false, length, if◌then◌else◌, refl, sym, subst, ◌∙◌, inl, inr, arith}
+use Rattle.std.proofs.Common.{◌≡◌, ◌+◌, ◌^◌, ◌≤◌, min, ℕ, zero, suc, List, [], ◌∷◌, Bool, true, false, length, take, if◌then◌else◌, refl, sym, ap, subst, ◌∙◌, inl, inr, arith}
 use Rattle.std.specs.Prelude.{All, Option, Some, None}
-use Rattle.std.specs.List.{AllByRecursion, Contains}
+use Rattle.std.specs.List.{AllByRecursion, Contains, slice_get}
 use Rattle.std.proofs.lemmas.Bool.{cases_lt, false≢true}
 use Rattle.std.proofs.lemmas.List.Elements.{All-contains, All-from_recursion, All-get_or, All-weaker, recursion_from_All}
 use Rattle.price_grid.specs.Grid.{IsUpTo}
@@ -9,16 +9,19 @@ use Rattle.box_specs.specs.declared.certificate.CertLine.{CertLine}
 use Rattle.box_specs.specs.declared.certificate.CertLine.TheVariants.{Dear, Fail, Limit, Split}
 use Rattle.box_specs.specs.declared.certificate.Claim.{Claim}
 use Rattle.box_specs.specs.declared.certificate.Claim.TheVariants.{Floor, Match, NoMatch}
-use Rattle.box_specs.specs.Canonical.{IsCanonical, IsClaim, IsPart, canonical_lines, is_judged, line_by, line_of}
+use Rattle.box_specs.specs.Canonical.{IsCanonical, IsClaim, IsFloor, IsPart, canonical_lines, is_judged, line_by, line_of}
 use Rattle.box_specs.specs.Landscape.{Grade, IsLawful, Land, fails, judged_by, light_of, limit_of, passes, unsure, IsSound}
 use Rattle.box_specs.specs.Span.{IsWithin, Span, is_single}
 use Rattle.box_specs.specs.Splits.{cut_of}
-use Rattle.box_specs.specs.Tree.{Spot, Tree, root, tree_of}
+use Rattle.box_specs.specs.Tree.{Tree, root, tree_of, need_to}
 use Rattle.box_specs.specs.Validity.{IsValid, corners, is_undecided_line}
 use Rattle.box_specs.proofs.Cuts.{cut_fits, same_count}
 use Rattle.box_core.specs.Ranges.{AreOfLength, ClaimFits, HaveOneLength, LineFits, StepsFit, first_length, recipes_of}
-use Rattle.box_search.specs.Answers.{IsFound}
-use Rattle.box_search.specs.declared.nodes.Node.{Node}
+use Rattle.box_search.specs.Found.{IsEnd, IsFound, IsSmall, claim_by}
+use Rattle.box_search.specs.declared.found.End.{End}
+use Rattle.box_search.specs.declared.found.End.TheVariants.{Enough, Exhausted, Stopped}
+use Rattle.box_specs.specs.Answer.{matches}
+use Rattle.box_specs.proofs.Answers.{first_is_answer}
 use Rattle.box_search.specs.Trees.{IsSoundTree}
 use Rattle.box_search.proofs.Ranks.{whole}
 use Rattle.box_search.proofs.Trees.{sound_of}
@@ -126,14 +129,42 @@ pub record IsMade (l : Land) (budget : ℕ) (claim : Claim) (rs : List (List ℕ
   pub one_length : HaveOneLength claim rs
   pub numbers : ClaimFits claim × All StepsFit rs × All LineFits xs
 
-pub made : (l : Land) → IsLawful l → (budget : ℕ) (claim : Claim) (listed : List (List ℕ)) (n : ℕ) (nodes : List Node) → IsFound l budget claim listed n nodes → budget ≤ 1000000
-    → (rs : List (List ℕ)) (xs : List CertLine) → rs ≡ listed → xs ≡ canonical_lines l n → IsMade l budget claim rs xs n
-made l lawful budget claim listed n nodes f few rs xs er ex =
-    subst (λ a. IsMade l budget claim a xs n) (sym er) (subst (λ a. IsMade l budget claim listed a n) (sym ex) (record {
-      canonical = f.canonical;
-      valid = canonical_is_valid l lawful budget claim listed (canonical_lines l n) n f.canonical;
-      short = omega (arith, f.short, f.canonical.judged, few);
-      few = omega (arith, f.few, f.canonical.judged, few);
-      one_length = lengths_fit l lawful budget n listed claim f.canonical;
-      numbers = numbers_fit l lawful budget n listed claim f.canonical;
-    }))
+-- a search for one recipe ends with the claim of the answer
+module _ (l : Land) (budget : ℕ) where
+  first_taken : (k : ℕ) (recipes : List (List ℕ)) → slice_get (take (suc k) recipes) 0 ≡ slice_get recipes 0
+  first_taken k [] = refl
+  first_taken k (r ∷ recipes) = refl
+
+  claimed : (end : End) (matched : List (List ℕ)) → IsEnd l 1 budget end (length matched) → matched ≡ take (length matched) (matches l) → IsClaim l budget (claim_by end matched)
+  claimed Enough [] e f = absurd (omega (arith, e.1))
+  claimed Enough (r ∷ rest) e f =
+      (subst (λ o. need_to l o ≤ budget) (first_is_answer l) e.0, sym (first_is_answer l) ∙ sym (first_taken (length rest) (matches l)) ∙ sym (ap (λ xs. slice_get xs 0) f))
+  claimed Exhausted matched e f = (subst (λ o. need_to l o ≤ budget) (first_is_answer l) e.0, sym (first_is_answer l) ∙ e.1)
+  claimed (Stopped cost) matched e f = subst (λ o. IsFloor l budget (need_to l o) cost) (first_is_answer l) e
+
+  canonical_of : (end : End) (matched listed : List (List ℕ)) (tree : List CertLine) (n : ℕ) → IsFound l 1 budget end matched listed tree n → IsCanonical l budget (claim_by end matched) listed tree n
+  canonical_of end matched listed tree n f = record {
+    judged = subst (λ o. n ≡ min (need_to l o) budget) (first_is_answer l) f.judged;
+    claimed = claimed end matched f.ended f.first;
+    tree_is = f.tree_is;
+    rising = f.undecided.rising;
+    each = f.undecided.each;
+    every = f.undecided.every;
+  }
+
+pub made : (l : Land) → IsLawful l → (budget : ℕ) (end : End) (matched listed : List (List ℕ)) (tree : List CertLine) (n : ℕ) → IsFound l 1 budget end matched listed tree n → IsSmall listed tree n
+    → budget ≤ 1000000 → (claim : Claim) (rs : List (List ℕ)) (xs : List CertLine) → claim ≡ claim_by end matched → rs ≡ listed → xs ≡ tree → IsMade l budget claim rs xs n
+made l lawful budget end matched listed tree n f small few claim rs xs ec er ex =
+    let Claimed : Claim = claim_by end matched in
+    let c : IsCanonical l budget Claimed listed tree n = canonical_of l budget end matched listed tree n f in
+    let plain : IsCanonical l budget Claimed listed (canonical_lines l n) n = subst (λ t. IsCanonical l budget Claimed listed t n) f.tree_is c in
+    let numbers = numbers_fit l lawful budget n listed Claimed plain in
+    let all : IsMade l budget Claimed listed tree n = record {
+      canonical = c;
+      valid = canonical_is_valid l lawful budget Claimed listed tree n c;
+      short = omega (arith, small.lines, f.judged, few);
+      few = omega (arith, small.few, f.judged, few);
+      one_length = lengths_fit l lawful budget n listed Claimed plain;
+      numbers = (numbers.0, numbers.1, subst (All LineFits) (sym f.tree_is) numbers.2);
+    } in
+    subst (λ k. IsMade l budget k rs xs n) (sym ec) (subst (λ a. IsMade l budget Claimed a xs n) (sym er) (subst (λ a. IsMade l budget Claimed listed a n) (sym ex) all))

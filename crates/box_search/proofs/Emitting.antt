@@ -1,12 +1,11 @@
 -- Writing the lines of a tree.
-use Rattle.std.proofs.Common.{◌≡◌, ◌+◌, ◌*◌, ◌<◌, ◌≤◌, ℕ, List, [], ◌∷◌, ◌++◌, Bool, true, false, length, if◌then◌else◌, append_assoc, append-nil, length-append, refl, sym, ap, subst, ◌∙◌, arith}
+use Rattle.std.proofs.Common.{◌≡◌, ◌+◌, ◌<◌, ◌≤◌, ℕ, List, [], ◌∷◌, ◌++◌, Bool, true, false, length, if◌then◌else◌, append_assoc, append-nil, length-append, refl, sym, ap, subst, ◌∙◌, arith}
 use Rattle.std.proofs.lemmas.Bool.{false≢true}
 use Rattle.box_specs.specs.declared.certificate.CertLine.{CertLine}
 use Rattle.box_specs.specs.declared.certificate.CertLine.TheVariants.{Dear, Fail, Limit, Pass, Split, Undecided}
 use Rattle.box_specs.specs.Canonical.{canonical_lines, is_judged, line_of, lines}
 use Rattle.box_specs.specs.Landscape.{IsLawful, Land}
 use Rattle.box_specs.specs.Span.{Span}
-use Rattle.box_specs.specs.Splits.{cut_of}
 use Rattle.box_specs.specs.Tree.{Tree, fork, leaf, tree_of}
 use Rattle.box_search.specs.Nodes.{Owes, Shows, below, node_at}
 use Rattle.box_search.specs.Trees.{IsSoundTree, is_split_line}

@@ -1,34 +1,38 @@
 -- How a search begins, goes on and ends.
-use Rattle.std.proofs.Common.{◌≡◌, ◌+◌, ◌<◌, ◌≤◌, not, min, ℕ, List, [], ◌∷◌, true, false, if◌then◌else◌, refl, sym, ap, subst, ◌∙◌, ◌⊎◌, inl, inr, arith}
+use Rattle.std.proofs.Common.{◌≡◌, ◌+◌, ◌-◌, ◌<◌, ◌≤◌, ◌++◌, not, ℕ, List, [], ◌∷◌, Bool, true, false, length, take, length-append, if◌then◌else◌, refl, sym, ap, subst, ◌∙◌, ◌⊎◌, inl, inr, arith}
 use Rattle.std.specs.Prelude.{Option, Some, None}
-use Rattle.std.specs.List.{AllByRecursion, Contains}
+use Rattle.std.specs.List.{AllByRecursion, Contains, slice_get}
 use Rattle.std.specs.Ordering.{is_eq}
 use Rattle.std.specs.Cmp.{tied_itself}
-use Rattle.std.proofs.lemmas.Bool.{false≢true, or_right}
-use Rattle.std.proofs.lemmas.List.Elements.{All-from_recursion, All-nil, All-weaker}
-use Rattle.std.proofs.lemmas.Map.Views.{Contains-from_any}
-use Rattle.std.proofs.lemmas.Slice.Eq.{bytes_eq-Decides}
+use Rattle.std.proofs.lemmas.Bool.{false≢true}
+use Rattle.std.proofs.lemmas.List.Elements.{All-contains, All-from_recursion, All-nil, All-weaker}
 use Rattle.box_specs.specs.declared.certificate.CertLine.{CertLine}
-use Rattle.box_specs.specs.declared.certificate.Claim.{Claim}
-use Rattle.box_specs.specs.Answer.{IsAnswer, IsFirstMatch, answer_of, is_match}
-use Rattle.box_specs.specs.Canonical.{IsCanonical, IsClaim, IsPart, canonical_lines, is_judged, line_of}
-use Rattle.box_specs.specs.Landscape.{IsLawful, Land, is_before, is_final, is_shut, key_of, IsSound}
-use Rattle.box_specs.specs.Span.{IsWithin, Span, is_single}
+use Rattle.box_specs.specs.declared.certificate.CertLine.TheVariants.{Dear}
+use Rattle.box_specs.specs.Answer.{kth_match, matches}
+use Rattle.box_specs.specs.Canonical.{IsPart, canonical_lines, is_judged, line_of}
+use Rattle.box_specs.specs.Landscape.{IsLawful, Land, is_before, is_final, key_of, IsSound}
+use Rattle.box_specs.specs.Span.{IsWithin, Span}
 use Rattle.box_specs.specs.Splits.{cut_of, lower_half, upper_half}
-use Rattle.box_specs.specs.Tree.{Spot, Tree, count, fork, is_needed, leaf, need, rank, root, spot_cmp, spot_of, tree_of}
+use Rattle.box_specs.specs.Tree.{Spot, Tree, count, fork, is_needed, leaf, need_to, rank, root, spot_cmp, spot_of, tree_of}
+use Rattle.box_specs.specs.Order.{IsRising}
+use Rattle.box_search.specs.Found.{AreRecipesOf, need_for}
 use Rattle.box_specs.specs.Validity.{corners, is_listed, is_pass_line, is_undecided_line}
 use Rattle.box_specs.proofs.Answers.{never_before_itself}
 use Rattle.box_specs.proofs.Cuts.{not_both as not_both_halves}
-use Rattle.box_search.specs.Frontier.{IsAt, IsCovered, IsUndecided, State, done_in, is_done, with_entry, without}
-use Rattle.box_search.proofs.Frontier.{IsChild, Turned, corner_in_box, entry_cases, equal_test, part_trans, same_part, some_same, spot_same, without_cases}
+use Rattle.box_search.specs.State.{IsAt, IsCovered, HasRecipes, IsRecipe, State, done_in, is_done, with_entry, without}
+use Rattle.box_search.proofs.Judging.{IsChild, Turned, corner_in_box, entry_cases, equal_test, part_trans, same_part, spot_same, without_cases}
 use Rattle.std.proofs.lemmas.Option.{none-some}
-use Rattle.box_search.proofs.Orders.{before_by_key, before_on, by, key_not_before, next_deeper, not_after, not_both, not_deeper, not_itself, on_before, precedes, spot_up, spots_are_ordered}
+use Rattle.box_search.proofs.Orders.{before_by_key, before_on, key_not_before, next_deeper, not_after, not_both, not_deeper, not_itself, on_before, precedes, spot_up, spots_are_ordered}
 use Rattle.box_specs.proofs.Keys.{tied_keys}
-use Rattle.box_search.proofs.Ranks.{alike, at_sound, at_tree, below_after, ge_test, judged_above, lt_test, not_false, not_true, whole}
+use Rattle.box_search.proofs.Ranks.{alike, at_sound, at_tree, below_after, judged_above, whole}
+use Rattle.box_specs.proofs.Tests.{by, ge_test, lt_test, not_false, not_true}
 use Rattle.box_search.specs.Trees.{IsSoundTree}
-use Rattle.box_search.proofs.Trees.{count_le, count_lt, halved, part_root, whole_root}
+use Rattle.box_search.proofs.Trees.{alone, count_le, count_lt, halved, part_root, whole_root}
 use Rattle.box_specs.proofs.Spans.{corner_within}
-use Rattle.box_search.proofs.Valid.{MatchLeaf, answer, at_top, corner_in, first_is, line_match, match_leaf}
+use Rattle.box_search.proofs.Valid.{MatchLeaf, at_top, corner_in, line_match, match_leaf}
+use Rattle.box_search.proofs.Matches.{IsMatch, kth_is, last_at, match_in, matches_all, matches_rise, rest_listed, take_own}
+use Rattle.box_search.proofs.Rising.{not_twice, prefix}
+use Rattle.box_specs.proofs.Lists.{listed_of}
 use Rattle.box_search.proofs.Walks.{corners_are, mark, passing}
 
 pub equal_itself : (z : Spot) → is_eq (spot_cmp z z) ≡ true
@@ -50,9 +54,9 @@ two_places l d b i h = by (is_eq (spot_cmp (spot_of l d (lower_half b (cut_of b)
     (λ x. x)
 
 module _ (l : Land) (lawful : IsLawful l) where
-  module _ (f : Spot → Option Span) (g : Spot → Option CertLine) (last : Option Spot) (n : ℕ) (listed : List (List ℕ)) (d : ℕ) where
+  module _ (f : Spot → Option Span) (g : Spot → Option CertLine) (last : Option Spot) (n : ℕ) (matched listed : List (List ℕ)) (d : ℕ) where
     -- a judged box that is not split waits no longer
-    pub turned_leaf : (u : Tree) → IsSoundTree l u → is_final l (root u) ≡ true → Turned l lawful f (without (spot_of l d (root u)) f) g last n listed d u
+    pub turned_leaf : (u : Tree) → IsSoundTree l u → is_final l (root u) ≡ true → Turned l lawful f (without (spot_of l d (root u)) f) g last n matched listed d u
     turned_leaf (fork b s t) i h = absurd (false≢true (sym i.1 ∙ h))
     turned_leaf (leaf b) i h = record {
       new = λ z c k.
@@ -64,7 +68,7 @@ module _ (l : Land) (lawful : IsLawful l) where
 
     -- a judged box that is split waits no longer, and its halves wait
     pub turned_fork : (u : Tree) → IsSoundTree l u → IsPart l (tree_of l) 0 d u → is_final l (root u) ≡ false
-        → Turned l lawful f (with_halves l d (root u) (without (spot_of l d (root u)) f)) g last n listed d u
+        → Turned l lawful f (with_halves l d (root u) (without (spot_of l d (root u)) f)) g last n matched listed d u
     turned_fork (leaf b) i at h = absurd (false≢true (sym h ∙ i.1))
     turned_fork (fork b s t) i at h = record { new = new; keeps = keeps; below = below } where
       Low : Span
@@ -76,7 +80,7 @@ module _ (l : Land) (lawful : IsLawful l) where
       F : Spot → Option Span
       F = without (spot_of l d b) f
 
-      child : (w : Tree) → IsPart l (fork b s t) d (d + 1) w → (z : Spot) (c : Span) → spot_of l (d + 1) (root w) ≡ z → root w ≡ c → IsChild l lawful f F g last n listed d (fork b s t) z c
+      child : (w : Tree) → IsPart l (fork b s t) d (d + 1) w → (z : Spot) (c : Span) → spot_of l (d + 1) (root w) ≡ z → root w ≡ c → IsChild l lawful f F g last n matched listed d (fork b s t) z c
       child w k z c x y =
           let depth : z.depth ≡ d + 1 = sym (ap (λ (q : Spot). q.depth) x) in
           record { part = w; at = k; box = y; depth = depth; place = sym x ∙ (λ j. spot_of l (sym depth j) (y j)) }
@@ -87,17 +91,17 @@ module _ (l : Land) (lawful : IsLawful l) where
       high_part : IsPart l (fork b s t) d (d + 1) t
       high_part = inr (inr (part_root l t (d + 1)))
 
-      new : (z : Spot) (c : Span) → with_halves l d b F z ≡ Some c → ((f z ≡ Some c) × (is_eq (spot_cmp (spot_of l d b) z) ≡ false)) ⊎ IsChild l lawful f (with_halves l d b F) g last n listed d (fork b s t) z c
-      new z c k = elim (entry_cases (spot_of l (d + 1) Low) Low (with_entry (spot_of l (d + 1) High) High F) z c k) as (λ _. ((f z ≡ Some c) × (is_eq (spot_cmp (spot_of l d b) z) ≡ false)) ⊎ IsChild l lawful f (with_halves l d b F) g last n listed d (fork b s t) z c) [
+      new : (z : Spot) (c : Span) → with_halves l d b F z ≡ Some c → ((f z ≡ Some c) × (is_eq (spot_cmp (spot_of l d b) z) ≡ false)) ⊎ IsChild l lawful f (with_halves l d b F) g last n matched listed d (fork b s t) z c
+      new z c k = elim (entry_cases (spot_of l (d + 1) Low) Low (with_entry (spot_of l (d + 1) High) High F) z c k) as (λ _. ((f z ≡ Some c) × (is_eq (spot_cmp (spot_of l d b) z) ≡ false)) ⊎ IsChild l lawful f (with_halves l d b F) g last n matched listed d (fork b s t) z c) [
         | inl x ↦ inr (recast (child s low_part z c (ap (spot_of l (d + 1)) i.2 ∙ x.0) (i.2 ∙ x.1)))
-        | inr y ↦ elim (entry_cases (spot_of l (d + 1) High) High F z c y) as (λ _. ((f z ≡ Some c) × (is_eq (spot_cmp (spot_of l d b) z) ≡ false)) ⊎ IsChild l lawful f (with_halves l d b F) g last n listed d (fork b s t) z c) [
+        | inr y ↦ elim (entry_cases (spot_of l (d + 1) High) High F z c y) as (λ _. ((f z ≡ Some c) × (is_eq (spot_cmp (spot_of l d b) z) ≡ false)) ⊎ IsChild l lawful f (with_halves l d b F) g last n matched listed d (fork b s t) z c) [
           | inl x ↦ inr (recast (child t high_part z c (ap (spot_of l (d + 1)) i.3 ∙ x.0) (i.3 ∙ x.1)))
           | inr w ↦
               let x = without_cases (spot_of l d b) f z c w in
               inl (x.1, x.0)
         ]
       ] where
-        recast : IsChild l lawful f F g last n listed d (fork b s t) z c → IsChild l lawful f (with_halves l d b F) g last n listed d (fork b s t) z c
+        recast : IsChild l lawful f F g last n matched listed d (fork b s t) z c → IsChild l lawful f (with_halves l d b F) g last n matched listed d (fork b s t) z c
         recast x = record { part = x.part; at = x.at; box = x.box; depth = x.depth; place = x.place }
 
       -- a box that waits at the place of a half is that half
@@ -139,7 +143,7 @@ module _ (l : Land) (lawful : IsLawful l) where
       below e v (inr (inr k)) = inr (covered t e v high_part k High i.3 high_waits)
 
     -- the lower half stands before the other boxes that wait
-    module _ (s : State l f g last n listed None) (b : Span) (sound : IsSound l b) (here : f (spot_of l d b) ≡ Some b) (least : (z : Spot) (c : Span) → f z ≡ Some c → precedes z (spot_of l d b) ≡ false) where
+    module _ (s : State l f g last n matched listed) (b : Span) (sound : IsSound l b) (here : f (spot_of l d b) ≡ Some b) (least : (z : Spot) (c : Span) → f z ≡ Some c → precedes z (spot_of l d b) ≡ false) where
       abbrev Here : Spot
       Here = spot_of l d b
 
@@ -183,7 +187,7 @@ module _ (l : Land) (lawful : IsLawful l) where
   count_none (fork b s t) k = omega (arith, count_none s (k + 1), count_none t (k + 1))
 
   -- at the start only the box of all recipes waits, and no box is judged
-  pub first_state : State l (with_entry (spot_of l 0 l.top) l.top (λ z. None)) (λ z. None) None 0 [] None
+  pub first_state : State l (with_entry (spot_of l 0 l.top) l.top (λ z. None)) (λ z. None) None 0 [] []
   first_state = record {
     waits = λ z b h. elim (entry_cases (spot_of l 0 l.top) l.top (λ q. None) z b h) as (λ _. IsAt l z b) [
       | inl x ↦
@@ -213,16 +217,20 @@ module _ (l : Land) (lawful : IsLawful l) where
     };
     counted = count_none (tree_of l) 0;
     written = λ e v i. refl;
-    clean = λ e v i x y. absurd (false≢true x);
-    rising = λ i j d a b. absurd (omega (arith, b));
-    each = All-nil (IsUndecided l None);
-    every = λ e v i x y. absurd (false≢true x);
+    passing = no_recipes is_pass_line;
+    undecided = no_recipes is_undecided_line;
     shallow = λ z b h. elim (entry_cases (spot_of l 0 l.top) l.top (λ q. None) z b h) as (λ _. z.depth ≤ 0) [
       | inl x ↦ omega (arith, ap (λ (q : Spot). q.depth) x.0)
       | inr x ↦ absurd (none-some b x)
     ];
-    short = omega arith;
-  }
+  } where
+    no_recipes : (test : CertLine → Bool) → HasRecipes l test None 0 []
+    no_recipes test = record {
+      rising = λ i j d a b. absurd (omega (arith, b));
+      each = All-nil (IsRecipe l test None);
+      every = λ e v i x y. absurd (false≢true x);
+      short = omega arith;
+    }
 
   done_down : (last : Option Spot) (w z : Spot) → is_done last z ≡ true → precedes w z ≡ true → is_done last w ≡ true
   done_down None w z h k = absurd (false≢true h)
@@ -232,7 +240,7 @@ module _ (l : Land) (lawful : IsLawful l) where
   done_before None w z h k = absurd (false≢true k)
   done_before (Some p) w z h k = on_before w p z (not_true (precedes p w) k) (not_false (precedes p z) h)
 
-  module _ (f : Spot → Option Span) (g : Spot → Option CertLine) (last : Option Spot) (n : ℕ) (listed : List (List ℕ)) (won : Option (List ℕ)) (s : State l f g last n listed won) where
+  module _ (f : Spot → Option Span) (g : Spot → Option CertLine) (last : Option Spot) (n : ℕ) (matched listed : List (List ℕ)) (s : State l f g last n matched listed) where
     -- a box is judged exactly where its rank is less than the number of judged boxes
     pub ranked : (e : ℕ) (v : Tree) → IsPart l (tree_of l) 0 e v → is_judged l n e (root v) ≡ done_in l last e (root v)
     ranked e v i = by (done_in l last e (root v))
@@ -243,60 +251,68 @@ module _ (l : Land) (lawful : IsLawful l) where
         let more = count_le l (done_in l last) (λ d b. precedes (spot_of l d b) (spot_of l e (root v))) (tree_of l) 0 (λ d w j x. done_before last (spot_of l d (root w)) (spot_of l e (root v)) h x) in
         ge_test (rank l (spot_of l e (root v))) n (omega (arith, more, s.counted)) ∙ sym h)
 
-    pub canonical_at : (budget : ℕ) (claim : Claim) → n ≡ min (need l) budget → IsClaim l budget claim → IsCanonical l budget claim listed (canonical_lines l n) n
-    canonical_at budget claim e c = record {
-      judged = e;
-      claimed = c;
-      tree_is = refl;
-      rising = s.rising;
-      each = All-weaker (IsUndecided l last) (Contains cs) marked listed s.each;
-      every = All-from_recursion (Contains listed) cs
-          (at_top l lawful listed budget n (λ bs xs. AllByRecursion (Contains listed) (corners is_undecided_line bs xs))
-          (corners_are l (is_judged l n) (Contains listed) is_undecided_line refl (tree_of l) 0 (whole l lawful) (λ d u i j h. s.every d u i (sym (ranked d u i) ∙ j) h) [] [] tt));
-    } where
-      cs : List (List ℕ)
-      cs = corners is_undecided_line (l.top ∷ []) (canonical_lines l n)
+    -- the recipes of the judged boxes whose lines pass a test are those of the lines of the tree
+    module _ (test : CertLine → Bool) (dear : test Dear ≡ false) (recipes : List (List ℕ)) (h : HasRecipes l test last n recipes) where
+      abbrev Corners : List (List ℕ)
+      Corners = corners test (l.top ∷ []) (canonical_lines l n)
 
-      marked : (r : List ℕ) → IsUndecided l last r → Contains cs r
+      marked : (r : List ℕ) → IsRecipe l test last r → Contains Corners r
       marked r o =
           let judged = ranked o.depth o.part o.at ∙ o.judged in
-          let there = mark l (is_judged l n) is_undecided_line o.depth o.part judged o.line (tree_of l) 0 (whole l lawful) o.at
+          let there = mark l (is_judged l n) test o.depth o.part judged o.line (tree_of l) 0 (whole l lawful) o.at
           (λ d u i p. judged_above l lawful n d o.depth u o.part i p judged) [] [] in
-          let listed_ = at_top l lawful listed budget n (λ bs xs. is_listed (corners is_undecided_line bs xs) (root o.part).lo ≡ true) there in
-          subst (Contains cs) o.corner (Contains-from_any (λ a b. (bytes_eq-Decides a b).0) (root o.part).lo cs listed_)
+          let at = at_top l lawful [] 0 n (λ bs xs. is_listed (corners test bs xs) (root o.part).lo ≡ true) there in
+          subst (Contains Corners) o.corner (listed_of Corners (root o.part).lo at)
 
-  -- a match that each first match equals is the answer
-  one_answer : (r : List ℕ) → IsWithin r l.top → is_match l r ≡ true → ((a : List ℕ) → IsFirstMatch l a → a ≡ r) → answer_of l ≡ Some r
-  one_answer r w m same = go (answer_of l) refl where
-    go : (o : Option (List ℕ)) → answer_of l ≡ o → answer_of l ≡ Some r
-    go None e = absurd (false≢true (sym (subst (IsAnswer l) e (answer l lawful) r w) ∙ m))
-    go (Some a) e = e ∙ ap Some (same a (first_is l lawful a e))
+      pub recipes_of : AreRecipesOf l test (canonical_lines l n) recipes
+      recipes_of = record {
+        rising = h.rising;
+        each = All-weaker (IsRecipe l test last) (Contains Corners) marked recipes h.each;
+        every = All-from_recursion (Contains recipes) Corners
+            (at_top l lawful [] 0 n (λ bs xs. AllByRecursion (Contains recipes) (corners test bs xs))
+            (corners_are l (is_judged l n) (Contains recipes) test dear (tree_of l) 0 (whole l lawful) (λ d u i j t. h.every d u i (sym (ranked d u i) ∙ j) t) [] [] tt));
+      }
 
-  no_fork_single : (u : Tree) → IsSoundTree l u → is_single (root u) ≡ true → leaf (root u) ≡ u
-  no_fork_single (leaf b) i h = refl
-  no_fork_single (fork b x y) i h = absurd (false≢true (sym i.1 ∙ or_right (is_shut l b) (is_single b) h))
+    -- the recipe of a judged box that passes is a match
+    recipe_match : (r : List ℕ) → IsRecipe l is_pass_line last r → IsMatch l r
+    recipe_match r o = subst (IsMatch l) o.corner (corner_in l lawful o.depth o.part o.at, line_match l (root o.part) o.line)
 
-  -- a recipe passes: it is the answer, and the judged boxes are those that are needed
-  module _ (f : Spot → Option Span) (g : Spot → Option CertLine) (n : ℕ) (listed : List (List ℕ)) (d : ℕ) (u : Tree)
-      (s : State l f g (Some (spot_of l d (root u))) n listed (Some (root u).lo)) (at : IsPart l (tree_of l) 0 d u) (h : is_pass_line (line_of l (root u)) ≡ true) where
+    -- a match that stands before one of the found recipes is found too
+    found_before : (y x : List ℕ) → Contains (matches l) y → Contains matched x → is_before l y x ≡ true → Contains matched y
+    found_before y x in_all in_found before =
+        let m = All-contains (IsMatch l) (matches l) y (matches_all l lawful.top) in_all in
+        let o = All-contains (IsRecipe l is_pass_line last) matched x s.passing.each in_found in
+        let at = match_leaf l lawful y m.0 m.1 in
+        let key : is_before l at.box.lo (root o.part).lo ≡ true = (λ i. is_before l (at.corner i) (o.corner i)) ∙ before in
+        let soon = before_by_key (spot_of l at.depth at.box) (spot_of l o.depth (root o.part)) key in
+        subst (Contains matched) at.corner
+        (s.passing.every at.depth (leaf at.box) at.part (done_down last (spot_of l at.depth at.box) (spot_of l o.depth (root o.part)) o.judged soon) at.line)
+
+    -- the found recipes are the first matches
+    pub found_first : (rest : List (List ℕ)) × (matches l ≡ matched ++ rest)
+    found_first =
+        prefix l matched (matches l) s.passing.rising (matches_rise l)
+        (All-weaker (IsRecipe l is_pass_line last) (Contains (matches l)) (λ r o. match_in l r (recipe_match r o)) matched s.passing.each) found_before
+
+    pub found_taken : matched ≡ take (length matched) (matches l)
+    found_taken = sym (ap (take (length matched)) found_first.1 ∙ take_own matched found_first.0)
+
+    -- where fewer recipes are found than are wanted, the box of the last of these is not judged yet
+    pub not_done : (wanted : ℕ) → length matched < wanted → (r : List ℕ) → kth_match l wanted ≡ Some r → (x : MatchLeaf l r) → done_in l last x.depth x.box ≡ false
+    not_done wanted few r e x = by (done_in l last x.depth x.box)
+        (λ y. absurd (not_twice l matched found_first.0 r (subst (IsRising l) found_first.1 (matches_rise l)) (subst (Contains matched) x.corner (s.passing.every x.depth (leaf x.box) x.part y x.line))
+        (rest_listed matched found_first.0 (wanted - 1) r (omega (arith, few)) (sym (ap (λ xs. slice_get xs (wanted - 1)) found_first.1) ∙ e))))
+        (λ y. y)
+
+  -- as many recipes are found as are wanted, and that of the box that was judged last is the last of
+  -- them: the judged boxes are those that are needed
+  module _ (f : Spot → Option Span) (g : Spot → Option CertLine) (n : ℕ) (matched listed : List (List ℕ)) (d : ℕ) (u : Tree)
+      (s : State l f g (Some (spot_of l d (root u))) n matched listed) (at : IsPart l (tree_of l) 0 d u) (h : is_pass_line (line_of l (root u)) ≡ true) where
     abbrev Q : Spot
     Q = spot_of l d (root u)
 
     leaf_u : IsPart l (tree_of l) 0 d (leaf (root u))
-    leaf_u = subst (λ w. IsPart l (tree_of l) 0 d w) (sym (no_fork_single u (at_tree l lawful d u at) (passing l (root u) h).0.alone)) at
-
-    first_one : (a : List ℕ) → IsFirstMatch l a → a ≡ (root u).lo
-    first_one a m = go (match_leaf l lawful a m.grid m.matches) where
-      go : MatchLeaf l a → a ≡ (root u).lo
-      go x = by (done_in l (Some Q) x.depth x.box)
-          (λ y. sym (some_same (root u).lo a (s.clean x.depth (leaf x.box) x.part y x.line ∙ ap Some x.corner)))
-          (λ y.
-          let late = key_not_before (spot_of l x.depth x.box) Q (not_both Q (spot_of l x.depth x.box) (not_false (precedes Q (spot_of l x.depth x.box)) y)) in
-          let key : is_before l a (root u).lo ≡ false = subst (λ r. is_before l r (root u).lo ≡ false) x.corner late in
-          tied_keys (key_of l a) (key_of l (root u).lo) key (m.first (root u).lo (corner_in l lawful d u at) (line_match l (root u) h)))
-
-    pub won_is : answer_of l ≡ Some (root u).lo
-    won_is = one_answer (root u).lo (corner_in l lawful d u at) (line_match l (root u) h) first_one
+    leaf_u = subst (λ w. IsPart l (tree_of l) 0 d w) (sym (alone l u (at_tree l lawful d u at) (passing l (root u) h).0.alone)) at
 
     needed_done : (e : ℕ) (v : Tree) → IsPart l (tree_of l) 0 e v → is_needed l (Some (root u).lo) (root v) ≡ true → done_in l (Some Q) e (root v) ≡ true
     needed_done e v i x = ap not (by (is_before l (root v).lo (root u).lo)
@@ -305,20 +321,25 @@ module _ (l : Land) (lawful : IsLawful l) where
           key : is_before l (root u).lo (root v).lo ≡ false
           key = not_true (is_before l (root u).lo (root v).lo) x
 
-    pub won_need : need l ≡ n
-    won_need =
+    need_last : need_to l (Some (root u).lo) ≡ n
+    need_last =
         let more = count_le l (λ e b. is_needed l (Some (root u).lo) b) (done_in l (Some Q)) (tree_of l) 0 needed_done in
         let less = count_le l (done_in l (Some Q)) (λ e b. is_needed l (Some (root u).lo) b) (tree_of l) 0
         (λ e v i x. ap not (key_not_before Q (spot_of l e (root v)) (not_true (precedes Q (spot_of l e (root v))) x))) in
-        let same : count (λ e b. is_needed l (Some (root u).lo) b) 0 (tree_of l) ≡ n = omega (arith, more, less, s.counted) in
-        ap (λ o. count (λ e b. is_needed l o b) 0 (tree_of l)) won_is ∙ same
+        omega (arith, more, less, s.counted)
 
-  module _ (f : Spot → Option Span) (g : Spot → Option CertLine) (last : Option Spot) (n : ℕ) (listed : List (List ℕ)) (s : State l f g last n listed None) where
-    -- no judged box passes so far, so the box of a match is not judged yet
-    not_done : (a : List ℕ) → (x : MatchLeaf l a) → done_in l last x.depth x.box ≡ false
-    not_done a x = by (done_in l last x.depth x.box) (λ y. absurd (none-some x.box.lo (s.clean x.depth (leaf x.box) x.part y x.line))) (λ y. y)
+    last_is : (wanted : ℕ) (old : List (List ℕ)) → matched ≡ old ++ (root u).lo ∷ [] → length matched ≡ wanted → kth_match l wanted ≡ Some (root u).lo
+    last_is wanted old e many =
+        let first = found_first f g (Some Q) n matched listed s in
+        let k : wanted - 1 ≡ length old = omega (arith, many, ap length e, length-append old ((root u).lo ∷ [])) in
+        ap (λ xs. slice_get xs (wanted - 1)) first.1 ∙ (λ i. slice_get (e i ++ first.0) (k i)) ∙ last_at old first.0 (root u).lo
 
-    -- no box waits: no admitted recipe passes, and all boxes are judged
+    pub need_enough : (wanted : ℕ) (old : List (List ℕ)) → matched ≡ old ++ (root u).lo ∷ [] → length matched ≡ wanted → need_for l wanted ≡ n
+    need_enough wanted old e many = ap (need_to l) (last_is wanted old e many) ∙ need_last
+
+  module _ (f : Spot → Option Span) (g : Spot → Option CertLine) (last : Option Spot) (n : ℕ) (matched listed : List (List ℕ)) (s : State l f g last n matched listed)
+      (wanted : ℕ) (few : length matched < wanted) where
+    -- no box waits: there are no more matches, and all boxes are judged
     module _ (empty : (z : Spot) → f z ≡ None) where
       all_done : (e : ℕ) (v : Tree) → IsPart l (tree_of l) 0 e v → done_in l last e (root v) ≡ true
       all_done e v i = by (done_in l last e (root v)) (λ x. x)
@@ -326,21 +347,21 @@ module _ (l : Land) (lawful : IsLawful l) where
           let c = s.covers e v i x in
           absurd (none-some (root c.above) (sym (empty (spot_of l c.depth (root c.above))) ∙ c.waits)))
 
-      pub none_is : answer_of l ≡ None
-      none_is = go (answer_of l) refl where
-        go : (o : Option (List ℕ)) → answer_of l ≡ o → answer_of l ≡ None
+      pub none_is : kth_match l wanted ≡ None
+      none_is = go (kth_match l wanted) refl where
+        go : (o : Option (List ℕ)) → kth_match l wanted ≡ o → kth_match l wanted ≡ None
         go None e = e
-        go (Some a) e =
-            let m = first_is l lawful a e in
-            let x = match_leaf l lawful a m.grid m.matches in
-            absurd (false≢true (sym (not_done a x) ∙ all_done x.depth (leaf x.box) x.part))
+        go (Some r) e =
+            let m = kth_is l lawful.top wanted r e in
+            let x = match_leaf l lawful r m.0 m.1 in
+            absurd (false≢true (sym (not_done f g last n matched listed s wanted few r e x) ∙ all_done x.depth (leaf x.box) x.part))
 
-      pub none_need : need l ≡ n
+      pub none_need : need_for l wanted ≡ n
       none_need =
           let more = count_le l (λ e b. is_needed l None b) (done_in l last) (tree_of l) 0 (λ e v i x. all_done e v i) in
           let less = count_le l (done_in l last) (λ e b. is_needed l None b) (tree_of l) 0 (λ e v i x. refl) in
-          let same : count (λ e b. is_needed l None b) 0 (tree_of l) ≡ n = omega (arith, more, less, s.counted) in
-          ap (λ o. count (λ e b. is_needed l o b) 0 (tree_of l)) none_is ∙ same
+          let same : need_to l None ≡ n = omega (arith, more, less, s.counted) in
+          ap (need_to l) none_is ∙ same
 
     -- a box waits: more boxes are needed, and the first of those that wait has the next rank
     module _ (q : Spot) (c : Span) (here : f q ≡ Some c) (least : (z : Spot) (b : Span) → f z ≡ Some b → precedes z q ≡ false) where
@@ -358,20 +379,21 @@ module _ (l : Land) (lawful : IsLawful l) where
           absurd (false≢true (sym (not_after q (spot_of l w.depth (root w.above)) (spot_of l e (root v)) low high) ∙ x)))) in
           omega (arith, more, less, s.counted)
 
-      more_needed : (o : Option (List ℕ)) → answer_of l ≡ o → n < count (λ e b. is_needed l o b) 0 (tree_of l)
+      more_needed : (o : Option (List ℕ)) → kth_match l wanted ≡ o → n < need_to l o
       more_needed None e =
           let not_yet : done_in l last q.depth (root a.part) ≡ false = subst (λ z. is_done last z ≡ false) (a.place ∙ (λ j. spot_of l q.depth (sym a.box j))) (s.later q c here) in
           let more = count_lt l (done_in l last) (λ k b. is_needed l None b) (tree_of l) 0 q.depth a.part (λ k v i x. refl) a.at not_yet refl in
           omega (arith, more, s.counted)
       more_needed (Some r) e =
-          let m = first_is l lawful r e in
-          let x = match_leaf l lawful r m.grid m.matches in
+          let m = kth_is l lawful.top wanted r e in
+          let x = match_leaf l lawful r m.0 m.1 in
+          let later = not_done f g last n matched listed s wanted few r e x in
           let itself : is_needed l (Some r) x.box ≡ true = ap not (subst (λ w. is_before l r w ≡ false) (sym x.corner) (never_before_itself l r)) in
           let more = count_lt l (done_in l last) (λ k b. is_needed l (Some r) b) (tree_of l) 0 x.depth (leaf x.box)
           (λ k v i y. ap not (subst (λ w. is_before l w (root v).lo ≡ false) x.corner
-          (key_not_before (spot_of l x.depth x.box) (spot_of l k (root v)) (not_both (spot_of l k (root v)) (spot_of l x.depth x.box) (done_before last (spot_of l k (root v)) (spot_of l x.depth x.box) (not_done r x) y)))))
-          x.part (not_done r x) itself in
+          (key_not_before (spot_of l x.depth x.box) (spot_of l k (root v)) (not_both (spot_of l k (root v)) (spot_of l x.depth x.box) (done_before last (spot_of l k (root v)) (spot_of l x.depth x.box) later y)))))
+          x.part later itself in
           omega (arith, more, s.counted)
 
-      pub floor_need : n < need l
-      floor_need = more_needed (answer_of l) refl
+      pub floor_need : n < need_for l wanted
+      floor_need = more_needed (kth_match l wanted) refl

@@ -3,8 +3,9 @@ pub mod Certs
 mod Emitting
 mod Endings
 mod Finding
-mod Frontier
-mod Hands
+mod Judging
+mod Matches
+mod Taking
 mod Orders
 pub mod Ranks
 pub mod Results

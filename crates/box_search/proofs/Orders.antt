@@ -2,18 +2,17 @@
 use Rattle.std.proofs.Common.{◌≡◌, ◌+◌, ◌≤◌, ℕ, List, [], ◌∷◌, Bool, true, false, refl, sym, ap, ◌∙◌, inl, inr, arith}
 use Rattle.std.proofs.lemmas.Bool.{cases_lt, false≢true}
 use Rattle.std.proofs.lemmas.Bool.Decides.{nat_tests}
-use Rattle.std.proofs.lemmas.Slice.Eq.{bytes_eq-Decides}
-use Rattle.std.proofs.lemmas.Map.Text.{is_eq-slice_cmp}
 use Rattle.std.specs.Cmp.Lexicographic.{slice_cmp}
 use Rattle.price_grid.specs.Grid.{IsUpTo}
 use Rattle.std.specs.Cmp.{IsTotalOrder, nat_cmp_total, on_total, then_total, tied_itself, upto}
-use Rattle.std.specs.Ordering.{is_eq, is_gt, is_lt, nat_cmp, ordering_reverse, ordering_then}
+use Rattle.std.specs.Ordering.{is_gt, is_lt, nat_cmp, ordering_then}
 use Rattle.std.specs.declared.cmp.Ordering.{Ordering}
 use Rattle.std.specs.declared.cmp.Ordering.TheVariants.{Equal, Greater, Less}
 use Rattle.price_grid.specs.Order.{KeyView, key_cmp}
 use Rattle.price_grid.proofs.CostLaws.{keys_are_ordered}
 use Rattle.box_specs.specs.Tree.{Spot, spot_cmp}
 use Rattle.box_specs.proofs.Keys.{equal_of, equal_one, equal_two, lt_turned, same_list, same_number}
+use Rattle.box_specs.proofs.Tests.{by}
 
 pub spots_are_ordered : IsTotalOrder spot_cmp
 spots_are_ordered = then_total (on_total (λ (s : Spot). s.key) keys_are_ordered) (on_total (λ (s : Spot). s.depth) nat_cmp_total)
@@ -38,11 +37,6 @@ not_both a b h = go (spot_cmp a b) refl where
   go Less e = precedes_swapped b a ∙ ap is_gt e
   go Equal e = precedes_swapped b a ∙ ap is_gt e
   go Greater e = absurd (false≢true (sym (ap is_lt e) ∙ h))
-
--- two cases of a test
-pub by : {P : Type 0} (b : Bool) → (b ≡ true → P) → (b ≡ false → P) → P
-by true f g = f refl
-by false f g = g refl
 
 -- a stands before c where a is before b and b not after c, or where a is not after b and b before c
 pub before_on : (a b c : Spot) → precedes a b ≡ true → precedes c b ≡ false → precedes a c ≡ true

@@ -1,38 +1,18 @@
 -- The order in which boxes are judged.
-use Rattle.std.proofs.Common.{◌≡◌, ◌<◌, ◌≤◌, not, ℕ, List, Bool, true, false, nat_lt, refl, sym, ap, subst, ◌∙◌, arith}
+use Rattle.std.proofs.Common.{◌≡◌, ◌<◌, ◌≤◌, not, ℕ, List, true, false, nat_lt, refl, sym, ap, subst, ◌∙◌, arith}
 use Rattle.std.specs.Prelude.{Option, Some, None}
-use Rattle.std.proofs.lemmas.Bool.{false≢true, true≢false}
-use Rattle.std.proofs.lemmas.Bool.Decides.{nat_tests}
+use Rattle.std.proofs.lemmas.Bool.{false≢true}
 use Rattle.box_specs.specs.Answer.{answer_of}
 use Rattle.box_specs.specs.Canonical.{IsPart, is_judged}
 use Rattle.box_specs.specs.Landscape.{IsLawful, Land, is_before, IsSound}
 use Rattle.box_specs.specs.Span.{IsWithin, Span}
 use Rattle.box_specs.specs.Tree.{Spot, Tree, count, is_needed, leaf, need, rank, root, spot_of, tree_of}
 use Rattle.box_specs.proofs.Answers.{not_before_trans}
-use Rattle.box_search.proofs.Orders.{before_by_key, before_on, by, key_not_before, not_both, not_itself, precedes, spot_up}
+use Rattle.box_search.proofs.Orders.{before_by_key, before_on, key_not_before, not_both, not_itself, precedes, spot_up}
 use Rattle.box_search.specs.Trees.{IsSoundTree}
 use Rattle.box_search.proofs.Trees.{count_le, count_lt, over, part_deep, part_inside, part_tree, sound_of, whole_tree}
 use Rattle.box_specs.proofs.Spans.{corner_within, inside_itself}
-
-pub test_lt : (m n : ℕ) → nat_lt m n ≡ true → m < n
-test_lt m n h = grind (arith, nat_tests, h)
-
-pub test_ge : (m n : ℕ) → nat_lt m n ≡ false → n ≤ m
-test_ge m n h = grind (arith, nat_tests, h)
-
-pub lt_test : (m n : ℕ) → m < n → nat_lt m n ≡ true
-lt_test m n h = grind (arith, nat_tests, h)
-
-pub ge_test : (m n : ℕ) → n ≤ m → nat_lt m n ≡ false
-ge_test m n h = grind (arith, nat_tests, h)
-
-pub not_true : (b : Bool) → not b ≡ true → b ≡ false
-not_true true h = absurd (false≢true h)
-not_true false h = refl
-
-pub not_false : (b : Bool) → not b ≡ false → b ≡ true
-not_false true h = refl
-not_false false h = absurd (true≢false h)
+use Rattle.box_specs.proofs.Tests.{by, ge_test, lt_test, not_true, test_lt}
 
 module _ (l : Land) (lawful : IsLawful l) where
   pub whole : IsSoundTree l (tree_of l)

@@ -3,7 +3,6 @@ use Rattle.std.proofs.Common.{◌≡◌, ◌+◌, ◌-◌, ◌<◌, ◌≤◌, �
 use Rattle.std.specs.Prelude.{Option, Some, None}
 use Rattle.std.specs.Option.{option_or}
 use Rattle.std.proofs.lemmas.Bool.{cases_lt, false≢true}
-use Rattle.std.proofs.lemmas.Bool.Decides.{nat_tests}
 use Rattle.box_specs.specs.declared.certificate.Claim.{Claim}
 use Rattle.box_specs.specs.declared.certificate.Claim.TheVariants.{Floor, Match, NoMatch}
 use Rattle.box_specs.specs.Answer.{answer_of}
@@ -15,14 +14,12 @@ use Rattle.box_specs.specs.Validity.{corners, is_undecided_line}
 use Rattle.box_search.specs.Laws.{ResultIsCanonical, ResultIsOne}
 use Rattle.box_search.specs.Result.{answer_claim, claim_at, corner_cost, first_box, floor_at, search_result}
 use Rattle.box_specs.specs.Order.{in_order}
-use Rattle.box_search.proofs.Frontier.{count_more}
-use Rattle.box_search.proofs.Orders.{IsTied, by, not_itself, precedes, tied}
-use Rattle.box_search.proofs.Ranks.{At, ge_test, lt_test, rank_lt, test_lt, whole}
+use Rattle.box_search.proofs.Judging.{count_more}
+use Rattle.box_search.proofs.Orders.{IsTied, not_itself, precedes, tied}
+use Rattle.box_search.proofs.Ranks.{At, rank_lt, whole}
+use Rattle.box_specs.proofs.Tests.{above, at_most, by, ge_test, le_test, lt_test, not_le_test, test_lt, tested}
 use Rattle.box_search.proofs.Rising.{order_each, order_every, order_is, order_rises}
 use Rattle.box_search.proofs.Trees.{count_le, count_lt, part_root}
-
-tested : (m n : ℕ) → m == n ≡ true → m ≡ n
-tested m n h = grind (arith, nat_tests, h)
 
 -- a part of the tree that passes the test
 record Passing (l : Land) (test : ℕ → Span → Bool) (k : ℕ) (t : Tree) : Type 0 where
@@ -185,14 +182,10 @@ module _ (l : Land) (lawful : IsLawful l) where
         ap l.cost two.steps ∙ ap (λ c. l.cost c.lo) some.is
 
   enough : (budget : ℕ) → need l ≤ budget → nat_le (need l) budget ≡ true
-  enough budget h = test (need l) budget h where
-    test : (m n : ℕ) → m ≤ n → nat_le m n ≡ true
-    test m n x = grind (arith, nat_tests, x)
+  enough budget h = le_test (need l) budget h
 
   too_small : (budget : ℕ) → budget < need l → nat_le (need l) budget ≡ false
-  too_small budget h = test (need l) budget h where
-    test : (m n : ℕ) → n < m → nat_le m n ≡ false
-    test m n x = grind (arith, nat_tests, x)
+  too_small budget h = not_le_test (need l) budget h
 
   claim_is : (budget : ℕ) (claim : Claim) → IsClaim l budget claim → claim ≡ claim_at l budget
   claim_is budget (Match recipe) c = ap answer_claim (sym c.1) ∙ ap (λ t. if t then answer_claim (answer_of l) else Floor (floor_at l budget)) (sym (enough budget c.0))
@@ -202,20 +195,14 @@ module _ (l : Land) (lawful : IsLawful l) where
 
   pub claim_holds : (budget : ℕ) → IsClaim l budget (claim_at l budget)
   claim_holds budget = go (nat_le (need l) budget) refl where
-    suffices : (m n : ℕ) → nat_le m n ≡ true → m ≤ n
-    suffices m n x = grind (arith, nat_tests, x)
-
-    fails_ : (m n : ℕ) → nat_le m n ≡ false → n < m
-    fails_ m n x = grind (arith, nat_tests, x)
-
     answered : need l ≤ budget → (o : Option (List ℕ)) → answer_of l ≡ o → IsClaim l budget (answer_claim o)
     answered h None e = (h, e)
     answered h (Some r) e = (h, e)
 
     go : (t : Bool) → nat_le (need l) budget ≡ t → IsClaim l budget (if t then answer_claim (answer_of l) else Floor (floor_at l budget))
-    go true e = answered (suffices (need l) budget e) (answer_of l) refl
+    go true e = answered (at_most (need l) budget e) (answer_of l) refl
     go false e =
-        let more = fails_ (need l) budget e in
+        let more = above (need l) budget e in
         let box = box_of budget (less (need l) all_boxes budget more need_few) in
         let r = tested (rank_at box.depth (root box.part)) budget box.passes in
         (more, box.depth, box.part, box.at, r, sym (floor_is budget box.depth box.part box.at r)) where

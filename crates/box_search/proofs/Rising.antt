@@ -1,19 +1,17 @@
 -- Lists of recipes that rise.
-use Rattle.std.proofs.Common.{◌≡◌, ◌||◌, ℕ, zero, suc, List, [], ◌∷◌, Bool, true, false, if◌then◌else◌, refl, sym, subst, ◌∙◌, ◌⊎◌, inl, inr, arith}
+use Rattle.std.proofs.Common.{◌≡◌, ◌||◌, ◌++◌, ℕ, zero, suc, List, [], ◌∷◌, Bool, true, false, if◌then◌else◌, refl, sym, ap, subst, ◌∙◌, ◌⊎◌, inl, inr, arith}
 use Rattle.std.specs.Prelude.{All}
 use Rattle.std.specs.List.{AllByRecursion, Contains}
-use Rattle.std.proofs.lemmas.Bool.{false≢true}
+use Rattle.std.proofs.lemmas.Bool.{false≢true, or_right}
 use Rattle.std.proofs.lemmas.List.Elements.{All-contains, All-contains_itself, All-from_recursion, All-weaker, recursion_from_All}
-use Rattle.std.proofs.lemmas.Map.Views.{list_any-from_Contains}
-use Rattle.std.proofs.lemmas.Cmp.{nat_list_eq_equiv}
 use Rattle.std.proofs.lemmas.Slice.Eq.{bytes_eq-Decides}
 use Rattle.box_specs.specs.Order.{IsRising, in_order, put_in}
 use Rattle.box_specs.specs.Landscape.{Land, is_before, key_of}
 use Rattle.box_specs.specs.Span.{same_steps}
 use Rattle.box_specs.specs.Validity.{is_listed}
-use Rattle.box_specs.proofs.Answers.{never_before_itself, not_before_trans, not_both_before}
-use Rattle.box_search.proofs.Orders.{by}
+use Rattle.box_specs.proofs.Answers.{before_trans, never_before_itself, not_both_before}
 use Rattle.box_specs.proofs.Keys.{tied_keys}
+use Rattle.box_specs.proofs.Lists.{listed_by, listed_of}
 
 or_cases : (a b : Bool) → a || b ≡ true → (a ≡ true) ⊎ (b ≡ true)
 or_cases true b h = inl refl
@@ -36,11 +34,17 @@ all_weaker : (P Q : List ℕ → Type 0) → ((r : List ℕ) → P r → Q r) �
 all_weaker P Q f [] a = tt
 all_weaker P Q f (x ∷ xs) a = (f x a.0, all_weaker P Q f xs a.1)
 
-module _ (l : Land) where
-  before_trans : (r s t : List ℕ) → is_before l r s ≡ true → is_before l s t ≡ true → is_before l r t ≡ true
-  before_trans r s t h k = by (is_before l r t) (λ e. e)
-      (λ e. absurd (false≢true (sym (not_before_trans l r t s (not_both_before l s t k) e) ∙ h)))
+pub here_listed : (x : List ℕ) (xs : List (List ℕ)) → is_listed (x ∷ xs) x ≡ true
+here_listed x xs = ap (λ t. t || is_listed xs x) ((bytes_eq-Decides x x).1 refl)
 
+pub later_listed : (x : List ℕ) (xs : List (List ℕ)) (r : List ℕ) → is_listed xs r ≡ true → is_listed (x ∷ xs) r ≡ true
+later_listed x xs r h = or_right (same_steps r x) (is_listed xs r) h
+
+right_listed : (xs ys : List (List ℕ)) (r : List ℕ) → is_listed ys r ≡ true → is_listed (xs ++ ys) r ≡ true
+right_listed [] ys r h = h
+right_listed (x ∷ xs) ys r h = later_listed x (xs ++ ys) r (right_listed xs ys r h)
+
+module _ (l : Land) where
   -- each recipe stands before all that follow
   abbrev Rises : List (List ℕ) → Type 0
   Rises [] = Unit {0}
@@ -89,6 +93,36 @@ module _ (l : Land) where
       let tail = one_list xs ys h.1 k.1 (behind x y xs ys head h.0 a.1) (behind y x ys xs (sym head) k.0 b.1) in
       λ i. head i ∷ tail i
 
+  -- what stands before a recipe of xs and is one of ys, is one of xs
+  abbrev IsClosed : (xs ys : List (List ℕ)) → Type 0
+  IsClosed xs ys = (y x : List ℕ) → is_listed ys y ≡ true → is_listed xs x ≡ true → is_before l y x ≡ true → is_listed xs y ≡ true
+
+  begins_with : (xs ys : List (List ℕ)) → Rises xs → Rises ys → AllByRecursion (λ r. is_listed ys r ≡ true) xs → IsClosed xs ys → (rest : List (List ℕ)) × (ys ≡ xs ++ rest)
+  begins_with [] ys h k a d = (ys, refl)
+  begins_with (x ∷ xs) [] h k a d = absurd (false≢true a.0)
+  begins_with (x ∷ xs) (y ∷ ys) h k a d =
+      let rest = begins_with xs ys h.1 k.1 (behind x y xs ys head h.0 a.1) closed in
+      (rest.0, λ i. sym head i ∷ rest.1 i) where
+        head : x ≡ y
+        head = elim (listed_cases y ys x a.0) as (λ _. x ≡ y) [
+          | inl e ↦ e
+          | inr p ↦ same_heads x y xs ys h k a.0 (d y x (here_listed y ys) (here_listed x xs) (of_listed (λ s. is_before l y s ≡ true) ys x k.0 p))
+        ]
+
+        closed : IsClosed xs ys
+        closed z w p q b = elim (listed_cases x xs z (d z w (later_listed y ys z p) (later_listed x xs w q) b)) as (λ _. is_listed xs z ≡ true) [
+          | inl e ↦ absurd (false≢true (sym (never_before_itself l y) ∙ subst (λ s. is_before l y s ≡ true) (e ∙ head) (of_listed (λ s. is_before l y s ≡ true) ys z k.0 p)))
+          | inr e ↦ e
+        ]
+
+  -- a rising list has no recipe twice
+  once : (xs ys : List (List ℕ)) (r : List ℕ) → Rises (xs ++ ys) → is_listed xs r ≡ true → is_listed ys r ≡ true → ⊥
+  once [] ys r h k m = false≢true k
+  once (x ∷ xs) ys r h k m = elim (listed_cases x xs r k) as (λ _. ⊥) [
+    | inl e ↦ false≢true (sym (never_before_itself l x) ∙ subst (λ s. is_before l x s ≡ true) e (of_listed (λ s. is_before l x s ≡ true) (xs ++ ys) r h.0 (right_listed xs ys r m)))
+    | inr p ↦ once xs ys r h.1 p m
+  ]
+
   -- `put_in r xs` has the recipes of xs and r, and no other, and rises where xs does
   put_all : (P : List ℕ → Type 0) (r : List ℕ) (xs : List (List ℕ)) → P r → AllByRecursion P xs → AllByRecursion P (put_in l r xs)
   put_all P r [] p a = (p, tt)
@@ -113,7 +147,7 @@ module _ (l : Land) where
   put_rises r [] h = (tt, tt)
   put_rises r (x ∷ xs) h = go (put_rises r xs h.1) (is_before l r x) (is_before l x r) refl refl where
     go : Rises (put_in l r xs) → (s t : Bool) → is_before l r x ≡ s → is_before l x r ≡ t → Rises (if s then r ∷ x ∷ xs else if t then x ∷ put_in l r xs else x ∷ xs)
-    go rest true t e f = ((e, all_weaker (λ y. is_before l x y ≡ true) (λ y. is_before l r y ≡ true) (λ y k. before_trans r x y e k) xs h.0), h)
+    go rest true t e f = ((e, all_weaker (λ y. is_before l x y ≡ true) (λ y. is_before l r y ≡ true) (λ y k. before_trans l r x y e k) xs h.0), h)
     go rest false true e f = (put_all (λ y. is_before l x y ≡ true) r xs f h.0, rest)
     go rest false false e f = h
 
@@ -144,7 +178,17 @@ module _ (l : Land) where
 
   are_listed : (xs ys : List (List ℕ)) → All (Contains ys) xs → AllByRecursion (λ r. is_listed ys r ≡ true) xs
   are_listed xs ys h = recursion_from_All (λ r. is_listed ys r ≡ true) xs
-      (All-weaker (Contains ys) (λ r. is_listed ys r ≡ true) (λ r c. list_any-from_Contains nat_list_eq_equiv r ys c) xs h)
+      (All-weaker (Contains ys) (λ r. is_listed ys r ≡ true) (λ r c. listed_by ys r c) xs h)
+
+  -- a rising list of recipes of another, with all of that other which stand before one of them, is
+  -- the beginning of that other
+  pub prefix : (xs ys : List (List ℕ)) → IsRising l xs → IsRising l ys → All (Contains ys) xs
+      → ((y x : List ℕ) → Contains ys y → Contains xs x → is_before l y x ≡ true → Contains xs y) → (rest : List (List ℕ)) × (ys ≡ xs ++ rest)
+  prefix xs ys h k each closed =
+      begins_with xs ys (rises xs h) (rises ys k) (are_listed xs ys each) (λ y x p q b. listed_by xs y (closed y x (listed_of ys y p) (listed_of xs x q) b))
+
+  pub not_twice : (xs ys : List (List ℕ)) (r : List ℕ) → IsRising l (xs ++ ys) → Contains xs r → is_listed ys r ≡ true → ⊥
+  not_twice xs ys r h k m = once xs ys r (rises (xs ++ ys) h) (listed_by xs r k) m
 
   -- and each rising list of the recipes of xs is that one
   pub order_is : (listed xs : List (List ℕ)) → IsRising l listed → All (Contains xs) listed → All (Contains listed) xs → listed ≡ in_order l xs

@@ -11,7 +11,7 @@ use Rattle.box_specs.specs.Splits.{cut_of, lower_half, upper_half}
 use Rattle.box_specs.specs.Tree.{Tree, count, fork, grow, leaf, root, spread, tree_of}
 use Rattle.box_search.specs.Trees.{IsSoundTree}
 use Rattle.box_specs.proofs.Cuts.{Cuts, cut_fits, from_lower, from_upper, in_lower, in_upper, lower_is_box, not_both, upper_is_box}
-use Rattle.box_specs.proofs.Spans.{corner_within, inside_itself, up_to_both, up_to_itself, up_to_trans, within_inside}
+use Rattle.box_specs.proofs.Spans.{inside_itself, up_to_itself, up_to_trans, within_inside}
 
 -- a box of one recipe has two equal corners
 pub single_corners : (b : Span) → is_single b ≡ true → b.lo ≡ b.hi
@@ -44,6 +44,11 @@ open_parts false t e = e
 module _ (l : Land) where
   pub open_single : (b : Span) → is_final l b ≡ false → is_single b ≡ false
   open_single b h = open_parts (is_shut l b) (is_single b) h
+
+  -- a tree of sound boxes whose box is a single recipe is a leaf
+  pub alone : (v : Tree) → IsSoundTree l v → is_single (root v) ≡ true → leaf (root v) ≡ v
+  alone (leaf b) i h = refl
+  alone (fork b x y) i h = absurd (false≢true (sym i.1 ∙ or_right (is_shut l b) (is_single b) h))
 
   -- what holds of the halves of a box that is split
   pub record Halved (b : Span) : Type 0 where

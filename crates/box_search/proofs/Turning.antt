@@ -11,10 +11,10 @@ use Rattle.box_specs.specs.Landscape.{Grade, Land, fails, is_final, judged_by, j
 use Rattle.box_specs.specs.Span.{IsBox, IsInside, Span, is_single}
 use Rattle.box_specs.specs.Splits.{CutAt, cut_of, lower_half, upper_half}
 use Rattle.box_specs.specs.Tree.{Spot}
-use Rattle.box_specs.specs.Validity.{is_undecided_line}
+use Rattle.box_specs.specs.Validity.{is_pass_line, is_undecided_line}
 use Rattle.box_specs.proofs.Cuts.{cut_fits, from_lower, from_upper, lower_is_box, upper_is_box}
-use Rattle.box_search.specs.Answers.{is_open, is_undecided}
-use Rattle.box_search.specs.Frontier.{with_entry}
+use Rattle.box_search.specs.Answers.{is_open, is_passing, is_undecided}
+use Rattle.box_search.specs.State.{with_entry}
 use Rattle.box_search.specs.Places.{at, place, place_cmp}
 use Rattle.box_search.specs.declared.place.Place.{Place}
 use Rattle.box_specs.proofs.Spans.{up_to_itself, up_to_trans}
@@ -62,6 +62,13 @@ open_final l b t h = go (limit_of l b) (light_of l b) (is_single b) (l.grade b.l
   go None None true fails true r = absurd (false≢true r)
   go None None true unsure true r = absurd (false≢true r)
   go None None true g false r = refl
+
+pub passing_by : (j : Judged) (cut : CutAt) → is_pass_line (line_by j cut) ≡ is_passing j
+passing_by (Limit k) cut = refl
+passing_by (Fail i) cut = refl
+passing_by StillOpen cut = refl
+passing_by Pass cut = refl
+passing_by Undecided cut = refl
 
 pub undecided_by : (j : Judged) (cut : CutAt) → is_undecided_line (line_by j cut) ≡ is_undecided j
 undecided_by (Limit k) cut = refl

@@ -1,13 +1,9 @@
 -- The certificate of a search is valid.
-use Rattle.std.proofs.Common.{◌≡◌, ◌+◌, ◌<◌, ◌≤◌, ◌&&◌, ◌||◌, not, min, ℕ, suc, List, [], ◌∷◌, ◌++◌, Bool, true, false, nat_le, length, if◌then◌else◌, refl, sym, ap, subst, ◌∙◌, append-nil, arith}
+use Rattle.std.proofs.Common.{◌≡◌, ◌<◌, ◌≤◌, ◌&&◌, ◌||◌, not, min, ℕ, List, [], ◌∷◌, ◌++◌, Bool, true, false, nat_le, length, refl, sym, ap, subst, ◌∙◌, append-nil, arith}
 use Rattle.std.specs.Prelude.{All, Option, Some, None, is_some}
 use Rattle.std.specs.List.{AllByRecursion, Contains}
-use Rattle.std.specs.Cmp.Lexicographic.{nat_list_eq_equiv}
 use Rattle.std.proofs.lemmas.List.Elements.{All-contains, All-from_recursion, recursion_from_All, All-weaker}
-use Rattle.std.proofs.lemmas.Map.Views.{Contains-from_any, list_any-from_Contains}
 use Rattle.std.proofs.lemmas.Bool.{and_parts, false≢true, or_right, true≢false}
-use Rattle.std.proofs.lemmas.Bool.Decides.{nat_tests}
-use Rattle.std.proofs.lemmas.Slice.Eq.{bytes_eq-Decides}
 use Rattle.box_specs.specs.declared.certificate.CertLine.{CertLine}
 use Rattle.box_specs.specs.declared.certificate.Claim.{Claim}
 use Rattle.box_specs.specs.declared.certificate.Claim.TheVariants.{Floor, Match, NoMatch}
@@ -19,19 +15,17 @@ use Rattle.box_specs.specs.Span.{IsWithin, Span, is_single}
 use Rattle.box_specs.specs.Tree.{Tree, count, fork, is_needed, leaf, need, rank, root, spot_of, tree_of}
 use Rattle.box_specs.specs.Validity.{AllHold, HaveLines, IsValid, are_trees, corners, cutoff_of, is_early, is_listed, is_pass_line, is_undecided_line, matched_of}
 use Rattle.price_grid.specs.Grid.{IsUpTo}
-use Rattle.box_specs.proofs.Answers.{answer_is, never_before_itself, not_before_trans}
+use Rattle.box_specs.proofs.Answers.{answer_is, never_before_itself, not_before_trans, pass_of}
 use Rattle.box_search.specs.Laws.{CanonicalIsValid}
-use Rattle.box_search.proofs.Orders.{before_by_key, by, cost_not_before, key_not_before, not_both, not_deeper, on_before, precedes}
+use Rattle.box_search.proofs.Orders.{before_by_key, cost_not_before, key_not_before, not_both, not_deeper, on_before, precedes}
 use Rattle.box_specs.proofs.Keys.{tied_keys}
-use Rattle.box_search.proofs.Ranks.{alike, at_sound, at_tree, judged_above, lower_rank, needed_is_judged, not_false, not_true, rank_lt, test_ge, test_lt, whole}
+use Rattle.box_search.proofs.Ranks.{alike, at_sound, at_tree, judged_above, lower_rank, needed_is_judged, rank_lt, whole}
+use Rattle.box_specs.proofs.Tests.{by, le_test, not_false, not_true, test_ge, test_lt}
 use Rattle.box_search.specs.Trees.{IsSoundTree}
 use Rattle.box_search.proofs.Trees.{count_le, leaf_for, single_corners, whole_root}
 use Rattle.box_specs.proofs.Spans.{corner_within, up_to_both}
 use Rattle.box_search.proofs.Walks.{Fits, IsPoint, corners_are, mark, one_tree, passing, point_line, undecided, walks}
-
--- the test of two numbers in order passes
-le_test : (m n : ℕ) → m ≤ n → nat_le m n ≡ true
-le_test m n h = grind (arith, nat_tests, h)
+use Rattle.box_specs.proofs.Lists.{listed_by, listed_of}
 
 module _ (l : Land) where
   -- the leaf of a match: its lower corner is the recipe, and its line passes
@@ -45,11 +39,6 @@ module _ (l : Land) where
   parts_or : (s t : Bool) → s || t ≡ true → s ≡ false → t ≡ true
   parts_or true t h e = absurd (true≢false e)
   parts_or false t h e = h
-
-  pass_of : (g : Grade) → is_pass g ≡ true → g ≡ passes
-  pass_of passes h = refl
-  pass_of fails h = absurd (false≢true h)
-  pass_of unsure h = absurd (false≢true h)
 
   is_pass_fails : (g : Grade) → g ≡ fails → is_pass g ≡ true → ⊥
   is_pass_fails g e h = false≢true (sym (ap is_pass e) ∙ h)
@@ -137,12 +126,6 @@ module _ (l : Land) (lawful : IsLawful l) where
         less (need l) budget (rank l (spot_of l e (root v))) more r least where
           less : (n m k : ℕ) → m < n → k ≡ m → n ≤ k → ⊥
           less n m k h1 h2 h3 = omega (arith, h1, h2, h3)
-
-  listed_by : (rs : List (List ℕ)) (r : List ℕ) → Contains rs r → is_listed rs r ≡ true
-  listed_by rs r h = list_any-from_Contains nat_list_eq_equiv r rs h
-
-  listed_of : (rs : List (List ℕ)) (r : List ℕ) → is_listed rs r ≡ true → Contains rs r
-  listed_of rs r h = Contains-from_any (λ a b. (bytes_eq-Decides a b).0) r rs h
 
   none_passing : {lines : List CertLine} → HaveLines l is_pass_line lines []
   none_passing {lines} = record {

@@ -1,16 +1,16 @@
 -- What is done with a box once it is judged, and what a search has found when it ends.
-use Rattle.std.specs.Prelude.{◌≡◌, ◌+◌, ◌*◌, ◌≤◌, ℕ, Bool, true, false, Option, Some, None, List, [], ◌∷◌, ◌++◌, length, if◌then◌else◌}
-use Rattle.box_specs.specs.declared.certificate.CertLine.{CertLine}
-use Rattle.box_specs.specs.declared.certificate.Claim.{Claim}
+use Rattle.std.specs.Prelude.{◌+◌, ◌*◌, ◌≤◌, ℕ, Bool, true, false, Option, Some, None, List, [], ◌∷◌, ◌++◌, length, if◌then◌else◌}
 use Rattle.box_specs.specs.declared.judged.Judged.{Judged}
 use Rattle.box_specs.specs.declared.judged.Judged.TheVariants.{Fail, Limit, Pass, StillOpen, Undecided}
-use Rattle.box_specs.specs.Canonical.{IsCanonical, IsPart, canonical_lines, is_judged, line_of}
+use Rattle.box_specs.specs.Canonical.{canonical_lines, is_judged}
 use Rattle.box_specs.specs.Landscape.{Land}
 use Rattle.box_specs.specs.Span.{Span}
-use Rattle.box_specs.specs.Tree.{Spot, Tree, root, spot_of, tree_of}
-use Rattle.box_search.specs.Hand.{halves_of}
+use Rattle.box_specs.specs.Tree.{tree_of}
+use Rattle.box_search.specs.Found.{IsFound, IsSmall}
+use Rattle.box_search.specs.Frontier.{halves_of}
+use Rattle.box_search.specs.declared.found.End.{End}
 use Rattle.box_search.specs.Nodes.{Shows}
-use Rattle.box_search.specs.declared.hand.Halves.{Halves}
+use Rattle.box_search.specs.declared.frontier.Halves.{Halves}
 use Rattle.box_search.specs.declared.nodes.Node.{Node}
 
 abbrev pub is_open : Judged → Bool
@@ -27,19 +27,25 @@ is_undecided StillOpen = false
 is_undecided Pass = false
 is_undecided Undecided = true
 
+abbrev pub is_passing : Judged → Bool
+is_passing (Limit k) = false
+is_passing (Fail j) = false
+is_passing StillOpen = false
+is_passing Pass = true
+is_passing Undecided = false
+
 -- the halves of a box that is judged open
 abbrev pub halves_by : Land → ℕ → Span → ℕ → Judged → Option Halves
 halves_by l depth b next judged = if is_open judged then Some (halves_of l depth b next) else None
 
--- the undecided recipes once the box is judged
-abbrev pub next_listed : Span → Judged → List (List ℕ) → List (List ℕ)
-next_listed b judged listed = if is_undecided judged then listed ++ b.lo ∷ [] else listed
+-- recipes, with that of a box that is judged or without it
+abbrev pub next_recipes : Bool → Span → List (List ℕ) → List (List ℕ)
+next_recipes joins b recipes = if joins then recipes ++ b.lo ∷ [] else recipes
 
--- what a search has found: with the canonical lines its claim and list are canonical, the
--- first node shows the tree with the lines of the judged boxes, and the listed recipes and the lines are few
-pub record IsFound (l : Land) (budget : ℕ) (claim : Claim) (listed : List (List ℕ)) (boxes : ℕ) (nodes : List Node) : Type 0 where
-  pub canonical : IsCanonical l budget claim listed (canonical_lines l boxes) boxes
+-- what a search has found: what it ends with has the canonical lines, and the first node shows the
+-- tree with the lines of the judged boxes
+pub record IsShown (l : Land) (wanted budget : ℕ) (end : End) (matched listed : List (List ℕ)) (boxes : ℕ) (nodes : List Node) : Type 0 where
+  pub found : IsFound l wanted budget end matched listed (canonical_lines l boxes) boxes
   pub shown : Shows l nodes (is_judged l boxes) 0 (tree_of l) 0
-  pub few : length listed ≤ boxes
   pub nodes_few : length nodes ≤ 2 * boxes + 1
-  pub short : length (canonical_lines l boxes) ≤ 2 * boxes + 1
+  pub small : IsSmall listed (canonical_lines l boxes) boxes

@@ -1,70 +1,68 @@
--- Where a search stands.
-use Rattle.std.specs.Prelude.{◌≡◌, ◌≤◌, not, ℕ, Bool, true, false, Option, Some, None, List, All, length, if◌then◌else◌}
-use Rattle.std.specs.List.{Contains}
-use Rattle.std.specs.Ordering.{is_eq, is_lt}
+-- The boxes that wait: those of the map, and the one in hand.
+use Rattle.std.specs.Prelude.{◌≡◌, ◌+◌, ◌*◌, ◌≤◌, length, ℕ, true, false, Option, Some, None, IsSome, List}
+use Rattle.std.specs.Ordering.{is_gt, is_lt}
 use Rattle.box_specs.specs.declared.certificate.CertLine.{CertLine}
-use Rattle.box_specs.specs.Canonical.{IsPart, line_of}
-use Rattle.box_specs.specs.Order.{IsRising}
 use Rattle.box_specs.specs.Landscape.{Land}
-use Rattle.box_specs.specs.Span.{IsWithin, Span}
-use Rattle.box_specs.specs.Tree.{Spot, Tree, count, root, spot_cmp, spot_of, tree_of}
-use Rattle.box_specs.specs.Validity.{is_pass_line, is_undecided_line}
+use Rattle.box_specs.specs.Span.{Span}
+use Rattle.box_specs.specs.Splits.{cut_of, lower_half, upper_half}
+use Rattle.box_specs.specs.Tree.{Spot, spot_cmp, spot_of}
+use Rattle.box_search.specs.State.{State, with_entry, without}
+use Rattle.box_search.specs.Places.{at, place, spot}
+use Rattle.box_search.specs.Nodes.{Arena, parts}
+use Rattle.box_search.specs.declared.frontier.Frontier.{Frontier}
+use Rattle.box_search.specs.declared.frontier.Halves.{Halves}
+use Rattle.box_search.specs.declared.frontier.Waiting.{Waiting}
+use Rattle.box_search.specs.declared.nodes.Node.{Node}
+use Rattle.box_search.specs.declared.place.Place.{Place}
 
--- a place is no later than the last one that was judged
-abbrev pub is_done : Option Spot → Spot → Bool
-is_done None z = false
-is_done (Some last) z = not (is_lt (spot_cmp last z))
+-- all boxes that wait: those of the map f, and the one in hand, if there is one
+abbrev pub with_hand : {X : Type 0} → Option (Place × X) → (Spot → Option X) → Spot → Option X
+with_hand None f = f
+with_hand (Some hand) f = with_entry (spot hand.0) hand.1 f
 
--- a map with this entry at one place, whatever it had there
-abbrev pub with_entry : {X : Type 0} → Spot → X → (Spot → Option X) → Spot → Option X
-with_entry q x f z = if is_eq (spot_cmp q z) then Some x else f z
+-- the box in hand stands before each box of the map
+abbrev pub IsAhead : {X : Type 0} → Option (Place × X) → (Spot → Option X) → Type 0
+IsAhead None f = Unit {0}
+IsAhead {X} (Some hand) f = (z : Spot) (b : X) → f z ≡ Some b → is_lt (spot_cmp (spot hand.0) z) ≡ true
 
--- a map without its entry at one place
-abbrev pub without : {X : Type 0} → Spot → (Spot → Option X) → Spot → Option X
-without q f z = if is_eq (spot_cmp q z) then None else f z
+abbrev pub waits_in : Frontier → Spot → Option Waiting
+waits_in frontier = with_hand frontier.hand (at frontier.map)
+
+abbrev pub IsOrdered : Frontier → Type 0
+IsOrdered frontier = IsAhead frontier.hand (at frontier.map)
+
+-- a box that waits, before which none stands, and the others that wait
+pub record IsFirst {X : Type 0} (f : Spot → Option X) (q : Spot) (b : X) (others : Spot → Option X) : Type 0 where
+  pub waits : f q ≡ Some b
+  pub least : (z : Spot) → IsSome (f z) → is_gt (spot_cmp q z) ≡ false
+  pub taken : (z : Spot) → others z ≡ without q f z
+
+-- the lower half is the next in hand
+abbrev pub lower_of : Option Halves → Option (Place × Waiting)
+lower_of None = None
+lower_of (Some halves) = Some halves.lower
+
+-- the upper half joins the map
+abbrev pub with_upper : Option Halves → (Spot → Option Waiting) → Spot → Option Waiting
+with_upper None f = f
+with_upper (Some halves) f = with_entry (spot halves.upper.0) halves.upper.1 f
 
 module _ (l : Land) where
-  abbrev pub done_in : Option Spot → ℕ → Span → Bool
-  done_in last d b = is_done last (spot_of l d b)
+  -- a half of a box with its place and its node; the depth is that of the box, so the half is one
+  -- deeper
+  abbrev pub half_at : ℕ → Span → ℕ → Place × Waiting
+  half_at depth b node = (place (spot_of l (depth + 1) b), record { part = b; node = node })
 
-  -- a part of the whole tree, at its place
-  pub record IsAt (z : Spot) (b : Span) : Type 0 where
-    pub part : Tree
-    pub at : IsPart l (tree_of l) 0 z.depth part
-    pub box : root part ≡ b
-    pub place : z ≡ spot_of l z.depth b
+  -- the halves of a box, with nodes from this number on
+  abbrev pub halves_of : ℕ → Span → ℕ → Halves
+  halves_of depth b next = record { lower = half_at depth (lower_half b (cut_of b)) next; upper = half_at depth (upper_half b (cut_of b)) (next + 1) }
 
-  -- a part is one that waits, or stands below one
-  pub record IsCovered (f : Spot → Option Span) (e : ℕ) (v : Tree) : Type 0 where
-    pub depth : ℕ
-    pub above : Tree
-    pub at : IsPart l (tree_of l) 0 depth above
-    pub below : IsPart l above depth e v
-    pub waits : f (spot_of l depth (root above)) ≡ Some (root above)
-
-  -- the recipe of a judged undecided box
-  pub record IsUndecided (last : Option Spot) (r : List ℕ) : Type 0 where
-    pub depth : ℕ
-    pub part : Tree
-    pub at : IsPart l (tree_of l) 0 depth part
-    pub judged : done_in last depth (root part) ≡ true
-    pub line : is_undecided_line (line_of l (root part)) ≡ true
-    pub corner : (root part).lo ≡ r
-
-  -- The invariant of a search: the n boxes at places up to `last` are judged, and g has their
-  -- lines. Each other box waits, or lies below one that waits. Two boxes that wait have no recipe
-  -- in common. The undecided recipes are listed in their order. Where a judged box passes, `won` is
-  -- its recipe
-  pub record State (f : Spot → Option Span) (g : Spot → Option CertLine) (last : Option Spot) (n : ℕ) (listed : List (List ℕ)) (won : Option (List ℕ)) : Type 0 where
-    pub waits : (z : Spot) (b : Span) → f z ≡ Some b → IsAt z b
-    pub later : (z : Spot) (b : Span) → f z ≡ Some b → is_done last z ≡ false
-    pub disjoint : (z y : Spot) (b c : Span) (r : List ℕ) → f z ≡ Some b → f y ≡ Some c → IsWithin r b → IsWithin r c → z ≡ y
-    pub covers : (e : ℕ) (v : Tree) → IsPart l (tree_of l) 0 e v → done_in last e (root v) ≡ false → IsCovered f e v
-    pub counted : count (done_in last) 0 (tree_of l) ≡ n
-    pub written : (e : ℕ) (v : Tree) → IsPart l (tree_of l) 0 e v → g (spot_of l e (root v)) ≡ (if done_in last e (root v) then Some (line_of l (root v)) else None)
-    pub clean : (e : ℕ) (v : Tree) → IsPart l (tree_of l) 0 e v → done_in last e (root v) ≡ true → is_pass_line (line_of l (root v)) ≡ true → won ≡ Some (root v).lo
-    pub rising : IsRising l listed
-    pub each : All (IsUndecided last) listed
-    pub every : (e : ℕ) (v : Tree) → IsPart l (tree_of l) 0 e v → done_in last e (root v) ≡ true → is_undecided_line (line_of l (root v)) ≡ true → Contains listed (root v).lo
-    pub shallow : (z : Spot) (b : Span) → f z ≡ Some b → z.depth ≤ n
-    pub short : length listed ≤ n
+-- the invariant of the loop of the search: a box in hand stands before the map, and the nodes have
+-- the lines of the judged boxes
+pub record Going (l : Land) (frontier : Frontier) (nodes : List Node) (n : ℕ) (matched listed : List (List ℕ)) : Type 0 where
+  pub last : Option Spot
+  pub g : Spot → Option CertLine
+  pub state : State l (parts (waits_in frontier)) g last n matched listed
+  pub ordered : IsOrdered frontier
+  pub arena : Arena l (waits_in frontier) g nodes
+  pub few : length nodes ≤ 2 * n + 1

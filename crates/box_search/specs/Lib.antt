@@ -1,8 +1,9 @@
 pub mod Answers
+pub mod Found
 pub mod Frontier
-pub mod Hand
 pub mod Laws
 pub mod Nodes
 pub mod Places
 pub mod Result
+pub mod State
 pub mod Trees

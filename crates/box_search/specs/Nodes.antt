@@ -9,7 +9,7 @@ use Rattle.box_specs.specs.Splits.{cut_of, lower_half, upper_half}
 use Rattle.box_specs.specs.Span.{Span}
 use Rattle.box_specs.specs.Tree.{Spot, Tree, fork, leaf, root, spot_of, tree_of}
 use Rattle.box_search.specs.Trees.{IsSoundTree, is_split_line}
-use Rattle.box_search.specs.declared.hand.Waiting.{Waiting}
+use Rattle.box_search.specs.declared.frontier.Waiting.{Waiting}
 use Rattle.box_search.specs.declared.nodes.Node.{Node}
 
 -- the node of a box that is not judged

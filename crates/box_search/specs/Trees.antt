@@ -1,12 +1,10 @@
 -- The tree of boxes.
-use Rattle.std.specs.Prelude.{◌≡◌, ℕ, Bool, true, false, Option, Some, None, if◌then◌else◌}
+use Rattle.std.specs.Prelude.{◌≡◌, Bool, true, false}
 use Rattle.box_specs.specs.declared.certificate.CertLine.{CertLine}
 use Rattle.box_specs.specs.declared.certificate.CertLine.TheVariants.{Dear, Fail, Limit, Pass, Split, Undecided}
-use Rattle.box_specs.specs.Canonical.{IsPart, line_of}
 use Rattle.box_specs.specs.Landscape.{IsSound, Land, is_final}
-use Rattle.box_specs.specs.Span.{Span}
 use Rattle.box_specs.specs.Splits.{cut_of, lower_half, upper_half}
-use Rattle.box_specs.specs.Tree.{Spot, Tree, fork, leaf, root, spot_of}
+use Rattle.box_specs.specs.Tree.{Tree, fork, leaf, root}
 
 module _ (l : Land) where
   -- a tree of sound boxes: the leaves are final, the forks are not, and below a fork stand the

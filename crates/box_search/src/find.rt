@@ -1,98 +1,87 @@
 //! The search itself.
 
-ghost use Rattle.std.specs.Prelude.{◌≡◌, ◌+◌, ◌≤◌, IfOk, Bool, true};
-ghost use Rattle.box_specs.specs.Validity.{is_pass_line};
-ghost use Rattle.box_search.specs.Answers.{IsFound};
+ghost use Rattle.std.specs.Prelude.{◌≡◌, ◌+◌, ◌==◌, ◌≤◌, IfOk, length};
+ghost use Rattle.box_search.specs.Answers.{IsShown};
 ghost use Rattle.box_specs.specs.Span.{lists};
 
-use crate::hand::{Waiting, take_first};
-use crate::nodes::{Node, unjudged};
+use crate::found::End;
+use crate::frontier::{Frontier, Waiting};
+use crate::nodes::unjudged;
 use crate::place::place_of;
-use crate::turn::turn;
-use box_core::{CertLine, Claim, Landscape};
-use price_grid::{Steps, copy_of};
+use crate::turn::{Tally, turn};
+use box_core::Landscape;
+use price_grid::Steps;
 use std::alloc::{AllocError, Global};
-use std::collections::BTreeMap;
 
-/// What a search has found: the claim, how many boxes were judged, the undecided recipes, and the
-/// nodes of the tree.
+/// How a search ended, how many boxes were judged, and what is kept of them.
 #[derive(Drop)]
-pub(crate) struct Found {
-    pub claim: Claim,
+pub(crate) struct Ended {
+    pub end: End,
     pub boxes: u32,
-    pub undecided: Vec<Steps>,
-    pub nodes: Vec<Node>,
+    pub tally: Tally,
 }
 
-/// Whether a line says that a recipe passes.
-fn is_pass(line: CertLine) -> bool
-    ensures { result ≡ is_pass_line line }
+/// Whether as many recipes are found as are wanted.
+fn is_enough(matched: &[Steps], wanted: u32) -> bool
+    ensures { result ≡ (length matched.now == wanted) }
 {
-    match line {
-        CertLine::Pass => true,
-        _ => false,
-    }
+    matched.len() == wanted as usize
 }
 
-/// Judges boxes in the order of their places until a recipe passes, no box is left, or the budget
-/// is spent. The lower half of a box that is split is judged next, so it is kept in hand; the map
-/// has the other boxes that wait.
+/// Judges boxes in the order of their places until as many recipes pass as are wanted, no box is
+/// left, or the budget is spent.
 pub(crate) fn find<L: Landscape>(
     alloc: Global,
     land: &L,
+    wanted: u32,
     budget: u32,
     meter: &mut L::Meter,
-) -> Result<Found, AllocError>
-    requires { budget ≤ 1000000 }
-    ensures found { IfOk result (λ r. IsFound (L.land land.now) budget r.claim
-        (lists r.undecided.items) r.boxes r.nodes.items) }
+) -> Result<Ended, AllocError>
+    requires some { 1 ≤ wanted }
+    requires few { budget ≤ 1000000 }
+    ensures shown { IfOk result (λ r. IsShown (L.land land.now) wanted budget r.end
+        (lists r.tally.matched.items) (lists r.tally.undecided.items)
+        r.boxes r.tally.nodes.items) }
     ensures judged { IfOk result (λ r. L.judged_count land.now meter.new
         ≤ L.judged_count land.now meter.old + r.boxes) }
     ensures at_most { L.judged_count land.now meter.new
         ≤ L.judged_count land.now meter.old + budget }
 {
     let top = land.top();
-    let mut waiting = BTreeMap::new(alloc);
-    let mut nodes = vec![in alloc; unjudged()]?;
-    let mut undecided = Vec::new(alloc);
-    let first = place_of(land, &top, 0);
-    let mut hand = Some((first, Waiting { part: top, node: 0 }));
+    let place = place_of(land, &top, 0);
+    let mut frontier = Frontier::of(alloc, place, Waiting { part: top, node: 0 });
+    let nodes = vec![in alloc; unjudged()]?;
+    let matched = Vec::new(alloc);
+    let undecided = Vec::new(alloc);
+    let mut tally = Tally {
+        nodes,
+        matched,
+        undecided,
+    };
     for boxes in 0..budget {
-        let Some((place, taken)) = take_first(hand, &mut waiting) else {
-            return Ok(Found {
-                claim: Claim::NoMatch,
+        let Some(taken) = frontier.take() else {
+            return Ok(Ended {
+                end: End::Exhausted,
                 boxes,
-                undecided,
-                nodes,
+                tally,
             });
         };
-        let (line, lower) = turn(
-            land,
-            &mut waiting,
-            &mut nodes,
-            &mut undecided,
-            place.depth,
-            &taken,
-            meter,
-        )?;
-        if is_pass(line) {
-            return Ok(Found {
-                claim: Claim::Match(copy_of(&taken.part.lo)),
+        turn(land, &mut frontier, &mut tally, &taken, meter)?;
+        if is_enough(tally.matched.as_slice(), wanted) {
+            return Ok(Ended {
+                end: End::Enough,
                 boxes: boxes + 1,
-                undecided,
-                nodes,
+                tally,
             });
         }
-        hand = lower;
     }
-    let claim = match take_first(hand, &mut waiting) {
-        None => Claim::NoMatch,
-        Some((place, _)) => Claim::Floor(place.key.cost),
+    let end = match frontier.take() {
+        None => End::Exhausted,
+        Some((place, _)) => End::Stopped(place.key.cost),
     };
-    Ok(Found {
-        claim,
+    Ok(Ended {
+        end,
         boxes: budget,
-        undecided,
-        nodes,
+        tally,
     })
 }

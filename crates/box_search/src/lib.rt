@@ -1,13 +1,17 @@
-//! The search for the first recipe that passes.
+//! The search for the first recipes that pass.
 #![tactic(auto)]
 
 mod emit;
 mod find;
-mod hand;
+mod found;
+mod frontier;
 pub mod laws;
 mod nodes;
 mod outcome;
 mod place;
+mod several;
 mod turn;
 
+pub use found::{End, Found};
 pub use outcome::{Outcome, search};
+pub use several::search_several;

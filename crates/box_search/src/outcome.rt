@@ -2,12 +2,15 @@
 
 ghost use Rattle.std.specs.Prelude.{◌≡◌, ◌+◌, ◌≤◌, IfOk};
 ghost use Rattle.box_specs.specs.Canonical.{IsCanonical};
+ghost use Rattle.box_specs.specs.Span.{lists};
 ghost use Rattle.box_specs.specs.Validity.{IsValid};
+ghost use Rattle.box_search.specs.Found.{claim_by};
 ghost use Rattle.box_search.specs.Result.{outcome_view, search_result};
 
-use crate::emit::emit;
-use crate::find::{Found, find};
-use box_core::{Cert, Landscape, LineList, StepsList};
+use crate::found::{End, Found};
+use crate::several::search_several;
+use box_core::{Cert, Claim, Landscape, LineList, StepsList};
+use price_grid::{Steps, copy_of};
 use std::alloc::{AllocError, Global};
 
 /// What a search ends with: its certificate, and how many boxes it judged.
@@ -15,6 +18,20 @@ use std::alloc::{AllocError, Global};
 pub struct Outcome {
     pub cert: Cert,
     pub boxes: u32,
+}
+
+/// The claim of a search for one recipe.
+fn claim_of(end: End, matched: &[Steps]) -> Claim
+    ensures { result ≡ claim_by end (lists matched.now) }
+{
+    match end {
+        End::Enough => match matched.first() {
+            Some(recipe) => Claim::Match(copy_of(recipe)),
+            None => Claim::NoMatch,
+        },
+        End::Exhausted => Claim::NoMatch,
+        End::Stopped(cost) => Claim::Floor(cost),
+    }
 }
 
 /// Looks for the first recipe, by cost and then by steps, that is admitted and passes. At most
@@ -39,16 +56,16 @@ pub fn search<L: Landscape>(
     ensures at_most { L.judged_count land.now meter.new
         ≤ L.judged_count land.now meter.old + budget }
 {
-    let found = find(alloc, land, budget, meter)?;
+    let found = search_several(alloc, land, 1, budget, meter)?;
     // For its clause that the landscape is lawful.
     let _top = land.top();
+    let claim = claim_of(found.end, found.matched.as_slice());
     let Found {
-        claim,
         boxes,
         undecided,
-        nodes,
+        lines,
+        ..
     } = found;
-    let lines = emit(alloc, land, nodes.as_slice(), boxes)?;
     let cert = Cert {
         claim,
         undecided: StepsList::of(undecided),

@@ -1,6 +1,6 @@
 //! Judging one box.
 
-ghost use Rattle.std.specs.Prelude.{◌≡◌, ◌<◌, ◌≤◌, ◌^◌, IfOk, OnErr, OnOk, false, length};
+ghost use Rattle.std.specs.Prelude.{◌≡◌, ◌<◌, ◌≤◌, ◌^◌, IfOk, None, OnErr, OnOk, false, length};
 ghost use Rattle.box_specs.specs.Canonical.{line_by, line_of};
 ghost use Rattle.box_specs.specs.declared.judged.Judged.TheVariants.{StillOpen};
 ghost use Rattle.box_specs.specs.Landscape.{judgement};
@@ -8,18 +8,17 @@ ghost use Rattle.box_specs.specs.Span.{IsBox, IsInside, is_single, lists};
 ghost use Rattle.box_specs.specs.Splits.{cut_of};
 ghost use Rattle.box_specs.specs.Tree.{Spot};
 ghost use Rattle.box_core.specs.Meter.{CountsOne};
-ghost use Rattle.box_search.specs.Answers.{halves_by, is_open, next_listed};
-ghost use Rattle.box_search.specs.Hand.{halves_of, lower_of, with_upper};
+ghost use Rattle.box_search.specs.Answers.{halves_by, is_open, is_passing, is_undecided, next_recipes};
+ghost use Rattle.box_search.specs.Frontier.{halves_of, lower_of, waits_in, with_upper};
 ghost use Rattle.box_search.specs.Nodes.{write_at};
 ghost use Rattle.box_search.specs.Places.{at};
 
-use crate::hand::{Halves, Waiting, add_upper};
+use crate::frontier::{Frontier, Halves, Waiting};
 use crate::nodes::{Node, write_node};
 use crate::place::{Place, place_of};
 use box_core::{BoxR, CertLine, Judged, Landscape, split};
 use price_grid::{Steps, copy_of};
 use std::alloc::AllocError;
-use std::collections::BTreeMap;
 
 /// The split line of a box of several recipes, and its halves at their places, with nodes from
 /// `next` on.
@@ -65,80 +64,98 @@ fn is_open(judged: Judged) -> bool
     judged == Judged::StillOpen
 }
 
-/// The line of a box that was judged, and the halves of an open one. An undecided recipe is
-/// listed.
+/// What a search keeps of the boxes that it has judged: their nodes, and the recipes that pass and
+/// those that are undecided.
+#[derive(Drop)]
+pub(crate) struct Tally {
+    pub nodes: Vec<Node>,
+    pub matched: Vec<Steps>,
+    pub undecided: Vec<Steps>,
+}
+
+/// The line of a box that was judged, and the halves of an open one, which get the next nodes. A
+/// recipe that passes or is undecided joins its list.
 fn record_judgement<L: Landscape>(
     land: &L,
-    undecided: &mut Vec<Steps>,
+    tally: &mut Tally,
     part: &BoxR,
     depth: u64,
-    next: u32,
     judged: Judged,
 ) -> Result<(CertLine, Option<Halves>), AllocError>
     requires boxed { IsBox part.now }
     requires inside { IsInside part.now (L.land land.now).top }
     requires judged { judged ≡ judgement (L.land land.now) part.now }
     requires depth { depth < 2 ^ 32 }
-    requires next { next < 2 ^ 31 }
+    requires few { length tally.old.nodes.items ≤ 2000001 }
     ensures line { IfOk result (λ r. r.0 ≡ line_by judged (cut_of part.now)) }
-    ensures halves { IfOk result (λ r. r.1
-        ≡ halves_by (L.land land.now) depth part.now next judged) }
-    ensures listed { OnOk result (lists undecided.new.items
-        ≡ next_listed part.now judged (lists undecided.old.items)) }
+    ensures halves { IfOk result (λ r. r.1 ≡ halves_by (L.land land.now)
+        depth part.now (length tally.old.nodes.items) judged) }
+    ensures nodes { tally.new.nodes.items ≡ tally.old.nodes.items }
+    ensures matched { OnOk result (lists tally.new.matched.items
+        ≡ next_recipes (is_passing judged) part.now (lists tally.old.matched.items)) }
+    ensures listed { OnOk result (lists tally.new.undecided.items
+        ≡ next_recipes (is_undecided judged) part.now (lists tally.old.undecided.items)) }
 {
     match judged {
         Judged::Limit(k) => Ok((CertLine::Limit(k), None)),
         Judged::Fail(j) => Ok((CertLine::Fail(j), None)),
         Judged::StillOpen => {
+            let next = tally.nodes.len() as u32;
             let (line, halves) = split_open(land, part, depth, next);
             Ok((line, Some(halves)))
         }
-        Judged::Pass => Ok((CertLine::Pass, None)),
+        Judged::Pass => {
+            tally.matched.push(copy_of(&part.lo))?;
+            Ok((CertLine::Pass, None))
+        }
         Judged::Undecided => {
-            undecided.push(copy_of(&part.lo))?;
+            tally.undecided.push(copy_of(&part.lo))?;
             Ok((CertLine::Undecided, None))
         }
     }
 }
 
-/// Judges a box, and writes its line into its node. Of an open one the upper half is added to
-/// `waiting`, and the lower one is returned. Where there is no memory, `waiting` is unchanged, but
-/// the undecided recipe or nodes may have been added.
+/// Judges the box that was taken, writes its line into its node, and adds its halves if it is open.
+/// Where there is no memory, the same boxes wait as before, but a recipe or nodes may have been
+/// added.
 pub(crate) fn turn<L: Landscape>(
     land: &L,
-    waiting: &mut BTreeMap<Place, Waiting>,
-    nodes: &mut Vec<Node>,
-    undecided: &mut Vec<Steps>,
-    depth: u64,
-    taken: &Waiting,
+    frontier: &mut Frontier,
+    tally: &mut Tally,
+    taken: &(Place, Waiting),
     meter: &mut L::Meter,
-) -> Result<(CertLine, Option<(Place, Waiting)>), AllocError>
-    requires boxed { IsBox taken.now.part }
-    requires inside { IsInside taken.now.part (L.land land.now).top }
-    requires depth { depth < 2 ^ 32 }
-    requires there { taken.now.node < length nodes.old.items }
-    requires few { length nodes.old.items ≤ 2000001 }
-    ensures line { IfOk result (λ r. r.0 ≡ line_of (L.land land.now) taken.now.part) }
-    ensures hand { let judged = judgement (L.land land.now) taken.now.part in
-        IfOk result (λ r. r.1 ≡ lower_of (halves_by (L.land land.now)
-        depth taken.now.part (length nodes.old.items) judged)) }
-    ensures waits { let judged = judgement (L.land land.now) taken.now.part in
-        OnOk result ((z : Spot) → at waiting.new z ≡ with_upper (halves_by (L.land land.now)
-        depth taken.now.part (length nodes.old.items) judged) (at waiting.old) z) }
-    ensures unchanged { OnErr result ((z : Spot) → at waiting.new z ≡ at waiting.old z) }
-    ensures nodes { OnOk result (nodes.new.items ≡ write_at taken.now.node
-        (line_of (L.land land.now) taken.now.part)
-        (is_open (judgement (L.land land.now) taken.now.part)) nodes.old.items) }
-    ensures listed { OnOk result (lists undecided.new.items
-        ≡ next_listed taken.now.part (judgement (L.land land.now) taken.now.part)
-        (lists undecided.old.items)) }
+) -> Result<(), AllocError>
+    requires boxed { IsBox taken.now.1.part }
+    requires inside { IsInside taken.now.1.part (L.land land.now).top }
+    requires depth { taken.now.0.depth < 2 ^ 32 }
+    requires hand { frontier.old.hand ≡ None }
+    requires there { taken.now.1.node < length tally.old.nodes.items }
+    requires few { length tally.old.nodes.items ≤ 2000001 }
+    ensures hand { let judged = judgement (L.land land.now) taken.now.1.part in
+        OnOk result (frontier.new.hand ≡ lower_of (halves_by (L.land land.now)
+        taken.now.0.depth taken.now.1.part (length tally.old.nodes.items) judged)) }
+    ensures map { let judged = judgement (L.land land.now) taken.now.1.part in
+        OnOk result ((z : Spot) → at frontier.new.map z ≡ with_upper (halves_by (L.land land.now)
+        taken.now.0.depth taken.now.1.part (length tally.old.nodes.items) judged)
+        (at frontier.old.map) z) }
+    ensures unchanged { OnErr result ((z : Spot) → waits_in frontier.new z
+        ≡ waits_in frontier.old z) }
+    ensures nodes { OnOk result (tally.new.nodes.items ≡ write_at taken.now.1.node
+        (line_of (L.land land.now) taken.now.1.part)
+        (is_open (judgement (L.land land.now) taken.now.1.part)) tally.old.nodes.items) }
+    ensures matched { OnOk result (lists tally.new.matched.items
+        ≡ next_recipes (is_passing (judgement (L.land land.now) taken.now.1.part))
+        taken.now.1.part (lists tally.old.matched.items)) }
+    ensures listed { OnOk result (lists tally.new.undecided.items
+        ≡ next_recipes (is_undecided (judgement (L.land land.now) taken.now.1.part))
+        taken.now.1.part (lists tally.old.undecided.items)) }
     ensures judged { CountsOne
         (L.judged_count land.now meter.old) (L.judged_count land.now meter.new) }
 {
-    let judged = land.judge(&taken.part, meter);
-    let next = nodes.len() as u32;
-    let (line, halves) = record_judgement(land, undecided, &taken.part, depth, next, judged)?;
-    write_node(nodes, taken.node, line, is_open(judged))?;
-    let lower = add_upper(waiting, halves)?;
-    Ok((line, lower))
+    let (place, waiting) = taken;
+    let part = &waiting.part;
+    let judged = land.judge(part, meter);
+    let (line, halves) = record_judgement(land, tally, part, place.depth, judged)?;
+    write_node(&mut tally.nodes, waiting.node, line, is_open(judged))?;
+    frontier.put_halves(halves)
 }

@@ -5,16 +5,23 @@ use Rattle.std.specs.Prelude.{Option, Some, None, cond}
 use Rattle.std.specs.List.{filter, slice_get}
 use Rattle.std.proofs.lemmas.Bool.{cases_lt, false≢true}
 use Rattle.price_grid.specs.Grid.{IsUpTo}
-use Rattle.box_specs.specs.Answer.{AnswerIsFirst, FirstIsAnswer, IsAnswer, all_recipes, answer_of, each_before, earlier, first_match, is_match, numbers_from, recipes_between}
+use Rattle.box_specs.specs.Answer.{AnswerIsFirst, FirstIsAnswer, IsAnswer, all_recipes, answer_of, each_before, earlier, first_match, is_match, is_pass, numbers_from, recipes_between}
 use Rattle.std.specs.Cmp.{tied_itself, upto}
 use Rattle.std.specs.Ordering.{is_gt, is_lt}
 use Rattle.std.specs.declared.cmp.Ordering.{Ordering}
 use Rattle.std.specs.declared.cmp.Ordering.TheVariants.{Equal, Greater, Less}
 use Rattle.price_grid.specs.Order.{KeyView, key_cmp}
 use Rattle.price_grid.proofs.CostLaws.{keys_are_ordered}
-use Rattle.box_specs.specs.Landscape.{Land, is_before, key_of}
+use Rattle.box_specs.specs.Landscape.{Grade, Land, fails, is_before, key_of, passes, unsure}
 use Rattle.box_specs.specs.Order.{in_order, put_in}
 use Rattle.box_specs.proofs.Keys.{lt_turned, tied_keys}
+use Rattle.box_specs.proofs.Tests.{by}
+
+-- only one verdict is that a recipe passes
+pub pass_of : (g : Grade) → is_pass g ≡ true → g ≡ passes
+pass_of passes h = refl
+pass_of fails h = absurd (false≢true h)
+pass_of unsure h = absurd (false≢true h)
 
 -- an item of a list
 abbrev pub IsIn : List ℕ → List (List ℕ) → Type 0
@@ -129,6 +136,10 @@ module _ (l : Land) where
     go Less e = turned s r ∙ ap is_gt e
     go Equal e = turned s r ∙ ap is_gt e
     go Greater e = absurd (false≢true (sym (ap is_lt e) ∙ h))
+
+  pub before_trans : (r s t : List ℕ) → is_before l r s ≡ true → is_before l s t ≡ true → is_before l r t ≡ true
+  before_trans r s t h k = by (is_before l r t) (λ e. e)
+      (λ e. absurd (false≢true (sym (not_before_trans r t s (not_both_before s t k) e) ∙ h)))
 
   clash : {P : Type 0} (s t : List ℕ) → s ≡ t → is_match l s ≡ false → is_match l t ≡ true → P
   clash s t e f h = absurd (false≢true (sym f ∙ ap (is_match l) e ∙ h))

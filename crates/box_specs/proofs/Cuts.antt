@@ -10,6 +10,7 @@ use Rattle.std.proofs.lemmas.Slice.Eq.{bytes_eq-Decides}
 use Rattle.price_grid.specs.Grid.{IsUpTo}
 use Rattle.box_specs.specs.Span.{IsBox, IsWithin, Span, is_single}
 use Rattle.box_specs.specs.Splits.{CutAt, HalvesPartition, Partitions, RuleFits, cut_at, cut_of, first_optional, is_cut, lower_half, middle_of, upper_half, widest}
+use Rattle.box_specs.proofs.Tests.{at_most, test_ge, test_lt}
 
 -- both corners have the same length
 pub same_count : (low high : List ℕ) → IsUpTo low high → length high ≡ length low
@@ -67,26 +68,17 @@ above_set (l ∷ low) [] (suc i) n h k = absurd h
 above_set (l ∷ low) (m ∷ high) zero n h k = h.0
 above_set (l ∷ low) (m ∷ high) (suc i) n h k = above_set low high i n h.1 (omega arith)
 
-not_below : (a b : ℕ) → nat_lt a b ≡ false → b ≤ a
-not_below a b h = grind (arith, nat_tests)
-
 -- what the test of a cut means
 pub record Cuts (b : Span) (cut : CutAt) : Type 0 where
   pub there : cut.dye < length b.lo
   pub low : get_or b.lo cut.dye 0 ≤ cut.mid
   pub high : cut.mid < get_or b.hi cut.dye 0
 
-at_most : (a b : ℕ) → nat_le a b ≡ true → a ≤ b
-at_most a b h = grind (arith, nat_tests)
-
-below : (a b : ℕ) → nat_lt a b ≡ true → a < b
-below a b h = grind (arith, nat_tests)
-
 pub cuts : (b : Span) (cut : CutAt) → is_cut b cut ≡ true → Cuts b cut
 cuts b cut h =
     let outer = and_parts (nat_lt cut.dye (length b.lo) && nat_le (get_or b.lo cut.dye 0) cut.mid) (nat_lt cut.mid (get_or b.hi cut.dye 0)) h in
     let inner = and_parts (nat_lt cut.dye (length b.lo)) (nat_le (get_or b.lo cut.dye 0) cut.mid) outer.0 in
-    record { there = below _ _ inner.0; low = at_most _ _ inner.1; high = below _ _ outer.1 }
+    record { there = test_lt _ _ inner.0; low = at_most _ _ inner.1; high = test_lt _ _ outer.1 }
 
 module _ (b : Span) (cut : CutAt) (box : IsBox b) (c : Cuts b cut) where
   pub lower_is_box : IsBox (lower_half b cut)
@@ -140,7 +132,7 @@ optional_found i dye (l ∷ low) (m ∷ high) h = go (optional_found (i + 1) dye
         dye_is = sym (ap (λ o. unwrap_or o 0) s) ∙ omega arith;
         there = omega arith;
         low_is = is_zero l parts.0;
-        high_is = below 0 m parts.1;
+        high_is = test_lt 0 m parts.1;
       }
   go found false e s =
       let rest = found s in
@@ -174,8 +166,8 @@ widest_found best width i (l ∷ low) (m ∷ high) h =
 
       go : IsWidest i (m - l) (i + 1) low high (widest i (m - l) (i + 1) low high) → IsWidest best width (i + 1) low high (widest best width (i + 1) low high)
           → (t : Bool) → nat_lt width (m - l) ≡ t → IsWidest best width i (l ∷ low) (m ∷ high) (if t then widest i (m - l) (i + 1) low high else widest best width (i + 1) low high)
-      go taken kept true e = take (below width (m - l) e) taken
-      go taken kept false e = keep (not_below width (m - l) e) kept
+      go taken kept true e = take (test_lt width (m - l) e) taken
+      go taken kept false e = keep (test_ge width (m - l) e) kept
 
 -- corners whose ranges all have the width 0 are the same
 pub no_width : (low high : List ℕ) → IsUpTo low high → AllZip (λ l h. h - l ≤ 0) low high → low ≡ high

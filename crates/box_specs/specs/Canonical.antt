@@ -1,5 +1,5 @@
 -- The certificate of the search.
-use Rattle.std.specs.Prelude.{◌≡◌, ◌⊎◌, ◌+◌, ◌<◌, ◌≤◌, ℕ, All, Bool, true, min, nat_lt, Some, None, List, [], ◌∷◌, ◌++◌, if◌then◌else◌}
+use Rattle.std.specs.Prelude.{◌≡◌, ◌⊎◌, ◌+◌, ◌<◌, ◌≤◌, ℕ, All, Bool, min, nat_lt, Some, None, List, [], ◌∷◌, ◌++◌, if◌then◌else◌}
 use Rattle.std.specs.List.{Contains}
 use Rattle.box_specs.specs.declared.certificate.CertLine.{CertLine}
 use Rattle.box_specs.specs.declared.certificate.CertLine.TheVariants as line
@@ -46,14 +46,17 @@ module _ (l : Land) where
   IsPart (leaf b) depth d u = (depth ≡ d) × (leaf b ≡ u)
   IsPart (fork b lower upper) depth d u = ((depth ≡ d) × (fork b lower upper ≡ u)) ⊎ (IsPart lower (depth + 1) d u ⊎ IsPart upper (depth + 1) d u)
 
-  -- the claim: the answer, or that there is none, where the budget suffices; and else the cost of
-  -- the lower corner of the first box that was not judged, which has exactly `budget` boxes before
-  -- it
+  -- where more boxes are needed than the budget allows: the cost of the lower corner of the first
+  -- box that was not judged, which has exactly `budget` boxes before it
+  abbrev pub IsFloor : (budget needed cost : ℕ) → Type 0
+  IsFloor budget needed cost =
+      (budget < needed) × (d : ℕ) × (u : Tree) × IsPart (tree_of l) 0 d u × (rank l (spot_of l d (root u)) ≡ budget) × (cost ≡ l.cost (root u).lo)
+
+  -- the claim: the answer, or that there is none, where the budget suffices; and else a floor
   abbrev pub IsClaim : ℕ → Claim → Type 0
   IsClaim budget (Match recipe) = (need l ≤ budget) × (answer_of l ≡ Some recipe.items)
   IsClaim budget NoMatch = (need l ≤ budget) × (answer_of l ≡ None)
-  IsClaim budget (Floor cost) =
-      (budget < need l) × (d : ℕ) × (u : Tree) × IsPart (tree_of l) 0 d u × (rank l (spot_of l d (root u)) ≡ budget) × (cost ≡ l.cost (root u).lo)
+  IsClaim budget (Floor cost) = IsFloor budget (need l) cost
 
   -- What a search of this budget ends with: it judges the boxes that are needed, or as many as the
   -- budget allows; the lines are those of the tree; and the recipes of its undecided lines are

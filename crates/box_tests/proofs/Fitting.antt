@@ -2,7 +2,6 @@
 use Rattle.std.proofs.Common.{◌≡◌, ◌<◌, ◌≤◌, ◌&&◌, ℕ, zero, suc, List, [], ◌∷◌, Bool, true, false, nat_le, length, get_or, refl, sym, subst, arith}
 use Rattle.std.specs.List.{All, list_all}
 use Rattle.std.proofs.lemmas.Bool.{and_parts, false≢true}
-use Rattle.std.proofs.lemmas.Bool.Decides.{nat_tests}
 use Rattle.std.proofs.lemmas.List.Sums.{AllPass-from_list_all}
 use Rattle.box_specs.specs.declared.certificate.CertLine.{CertLine}
 use Rattle.box_specs.specs.declared.certificate.CertLine.TheVariants.{Dear, Fail, Limit, Pass, Split, Undecided}
@@ -11,9 +10,7 @@ use Rattle.box_specs.specs.declared.certificate.Claim.TheVariants.{Floor, Match,
 use Rattle.box_specs.specs.Validity.{are_trees}
 use Rattle.box_core.specs.Ranges.{AreOfLength, ClaimFits, HaveOneLength, LineFits, StepsFit, first_length}
 use Rattle.box_tests.specs.Certs.{are_parts, is_claim, is_line, is_recipe}
-
-at_most : (a b : ℕ) → nat_le a b ≡ true → a ≤ b
-at_most a b h = grind (arith, nat_tests)
+use Rattle.box_specs.proofs.Tests.{at_most}
 
 pub record Parts (claim : Claim) (listed : List (List ℕ)) (lines : List CertLine) : Type 0 where
   pub whole : are_trees 1 lines ≡ true

@@ -1,6 +1,6 @@
 use crate::Ladder;
 use box_core::{BoxR, CertLine, Claim, Evals, Judged, Landscape, corner_key, halves, split};
-use box_search::search;
+use box_search::{End, search, search_several};
 use price_grid::Steps;
 use std::test::Fail;
 
@@ -118,5 +118,51 @@ fn searches_a_ladder(rt: HostRuntime) -> Result<(), Fail> {
         ]
         .as_slice()
     );
+    Ok(())
+}
+
+// Two of the five recipes pass, and are found in their order.
+#[test]
+fn searches_for_several(rt: HostRuntime) -> Result<(), Fail> {
+    let land = Ladder {
+        most: 4,
+        first: 3,
+        last: 4,
+    };
+    let mut meter = Evals::default();
+    let one = search_several(rt.alloc(), &land, 1, 100, &mut meter)?;
+    assert_eq!(rt;
+        (one.end, one.boxes, one.matched.len()),
+        (End::Enough, 6, 1)
+    );
+    let two = search_several(rt.alloc(), &land, 2, 100, &mut meter)?;
+    assert_eq!(rt;
+        (two.end, two.boxes, two.matched.len()),
+        (End::Enough, 7, 2)
+    );
+    for (i, steps) in two.matched.iter().enumerate() {
+        assert_eq!(rt; steps.as_slice(), [3 + i as u16].as_slice());
+    }
+    assert_eq!(rt;
+        two.lines.as_slice(),
+        [
+            split_after(0),
+            CertLine::Fail(1),
+            split_after(2),
+            CertLine::Fail(1),
+            split_after(3),
+            CertLine::Pass,
+            CertLine::Pass,
+        ]
+        .as_slice()
+    );
+    let three = search_several(rt.alloc(), &land, 3, 100, &mut meter)?;
+    assert_eq!(rt;
+        (three.end, three.boxes, three.matched.len()),
+        (End::Exhausted, 7, 2)
+    );
+    let stopped = search_several(rt.alloc(), &land, 3, 6, &mut meter)?;
+    assert_eq!(rt; (stopped.end, stopped.boxes), (End::Stopped(4), 6));
+    assert_eq!(rt; (stopped.matched.len(), stopped.undecided.len()), (1, 0));
     Ok(())
 }

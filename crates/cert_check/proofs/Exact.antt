@@ -1,12 +1,9 @@
 -- A certificate of one whole tree is valid exactly where nothing fails.
-use Rattle.std.proofs.Common.{◌≡◌, ◌+◌, ◌<◌, ◌≤◌, ℕ, zero, suc, List, [], ◌∷◌, Bool, true, false, length, get_or, refl, ap, subst, ◌∙◌, arith}
-use Rattle.std.specs.Prelude.{All, Option, Some, None}
-use Rattle.std.specs.List.{AllByRecursion, AllPairs, Contains}
-use Rattle.std.specs.Cmp.Lexicographic.{nat_list_eq_equiv}
+use Rattle.std.proofs.Common.{◌≡◌, ◌+◌, ◌<◌, ℕ, zero, suc, List, [], ◌∷◌, Bool, true, false, length, get_or, refl, ap, subst, ◌∙◌, arith}
+use Rattle.std.specs.Prelude.{All, None}
+use Rattle.std.specs.List.{AllByRecursion, Contains}
 use Rattle.std.proofs.lemmas.List.{get_or_default}
 use Rattle.std.proofs.lemmas.List.Elements.{All-weaker, recursion_from_All}
-use Rattle.std.proofs.lemmas.Map.Views.{Contains-from_any, list_any-from_Contains}
-use Rattle.std.proofs.lemmas.Slice.Eq.{bytes_eq-Decides}
 use Rattle.box_specs.specs.declared.certificate.CertLine.{CertLine}
 use Rattle.box_specs.specs.declared.certificate.Claim.{Claim}
 use Rattle.box_specs.specs.declared.certificate.Cutoff.{Cutoff}
@@ -14,9 +11,10 @@ use Rattle.box_specs.specs.declared.certificate.Cutoff.TheVariants.{Never}
 use Rattle.box_specs.specs.Landscape.{Land, is_before}
 use Rattle.box_specs.specs.Order.{IsRising}
 use Rattle.box_specs.specs.Span.{IsBox, IsWithin}
-use Rattle.box_specs.specs.Validity.{FailsUnlessValid, HaveLines, IsValid, are_trees, corners, cutoff_of, first_failure, is_early, is_in_grid, is_listed, is_pass_line, is_undecided_line, line_failure, list_failure, matched_of, or_next, unmarked_failure}
+use Rattle.box_specs.specs.Validity.{FailsUnlessValid, HaveLines, IsValid, are_trees, corners, cutoff_of, first_failure, is_early, is_listed, is_pass_line, is_undecided_line, list_failure, matched_of, or_next, unmarked_failure}
 use Rattle.cert_check.proofs.Faults.{hold_if, no_failure, or_none}
 use Rattle.cert_check.proofs.Within.{IsGood, ListIsOrdered, list_holds, list_is_ordered, or_wrong, within_test}
+use Rattle.box_specs.proofs.Lists.{listed_by, listed_of}
 
 unmarked_none : (l : Land) (us : List (List ℕ)) (n : ℕ) (rs : List (List ℕ)) → unmarked_failure l us n rs ≡ None
     → (k : ℕ) → k < length rs → is_listed us (get_or rs k []) ≡ true
@@ -37,12 +35,6 @@ marks_hold l marked n (s ∷ rest) h =
 
 to_all : (P : List ℕ → Type 0) (xs : List (List ℕ)) → ((k : ℕ) → k < length xs → P (get_or xs k [])) → All P xs
 to_all P xs h = λ k d lt. subst P (get_or_default xs k [] d lt) (h k lt)
-
-listed_of : (rs : List (List ℕ)) (r : List ℕ) → is_listed rs r ≡ true → Contains rs r
-listed_of rs r h = Contains-from_any (λ a b. (bytes_eq-Decides a b).0) r rs h
-
-listed_by : (rs : List (List ℕ)) (r : List ℕ) → Contains rs r → is_listed rs r ≡ true
-listed_by rs r h = list_any-from_Contains nat_list_eq_equiv r rs h
 
 module _ (l : Land) (box : IsBox l.top) where
   rises : (cutoff : Cutoff) (listed : List (List ℕ)) → ListIsOrdered l cutoff None listed → IsRising l listed

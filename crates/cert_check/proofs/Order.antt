@@ -5,7 +5,7 @@ use Rattle.std.proofs.lemmas.Slice.Eq.{bytes_eq-Decides}
 use Rattle.box_specs.specs.Landscape.{Land, is_before}
 use Rattle.box_specs.specs.Span.{same_steps}
 use Rattle.box_specs.specs.Validity.{is_listed}
-use Rattle.box_specs.proofs.Answers.{never_before_itself, not_before_trans, not_both_before}
+use Rattle.box_specs.proofs.Answers.{before_trans, never_before_itself, not_before_trans, not_both_before}
 use Rattle.cert_check.specs.Ready.{IsSorted}
 
 pub same_is : (a b : List ℕ) → same_steps a b ≡ true → a ≡ b
@@ -44,18 +44,12 @@ pub is_there : (listed : List (List ℕ)) (t r : List ℕ) (i : ℕ) (b : Bool) 
 is_there listed t r i b h same e = sym e ∙ same_is t r (sym h ∙ same)
 
 module _ (l : Land) where
-  pub before_trans : (a b c : List ℕ) → is_before l a b ≡ true → is_before l b c ≡ true → is_before l a c ≡ true
-  before_trans a b c h k = go (is_before l a c) refl where
-    go : (t : Bool) → is_before l a c ≡ t → t ≡ true
-    go true e = refl
-    go false e = absurd (false≢true (sym (not_before_trans l b a c e (not_both_before l a b h)) ∙ k))
-
   module _ (listed : List (List ℕ)) (r : List ℕ) (sorted : IsSorted l listed) where
     -- where the recipe in the middle comes before another, so does each one up to the middle
     pub below_mid : (mid : ℕ) → mid < length listed → is_before l (get_or listed mid []) r ≡ true
         → (k : ℕ) → k < mid + 1 → is_before l (get_or listed k []) r ≡ true
     below_mid mid h b k lt = elim (cases_lt k mid) as (λ _. is_before l (get_or listed k []) r ≡ true) [
-      | inl less ↦ before_trans _ _ _ (sorted.rising k mid less h) b
+      | inl less ↦ before_trans l _ _ _ (sorted.rising k mid less h) b
       | inr more ↦
           let same : mid ≡ k = omega arith in
           subst (λ i. is_before l (get_or listed i []) r ≡ true) same b

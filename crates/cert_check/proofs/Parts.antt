@@ -1,5 +1,5 @@
 -- Boxes of the landscape: their corners, and the halves that a line leaves.
-use Rattle.std.proofs.Common.{◌≡◌, ◌+◌, ◌≤◌, ℕ, zero, suc, List, [], ◌∷◌, true, false, get_or, arith}
+use Rattle.std.proofs.Common.{◌≡◌, ◌+◌, ◌≤◌, ℕ, zero, suc, List, [], ◌∷◌, true, get_or, arith}
 use Rattle.std.specs.List.{AllByRecursion, slice_set}
 use Rattle.std.proofs.lemmas.Bool.{false≢true}
 use Rattle.price_grid.specs.Grid.{IsUpTo}

@@ -1,6 +1,6 @@
 -- What a valid certificate means.
 use Rattle.std.proofs.Common.{◌≡◌, ◌+◌, ◌<◌, ◌≤◌, ◌&&◌, ◌||◌, ℕ, zero, suc, List, [], ◌∷◌, Bool, true, false, length, get_or, if◌then◌else◌, refl, sym, ap, subst, ◌∙◌, ◌⊎◌, inl, inr, arith}
-use Rattle.std.specs.Prelude.{All, Option, Some, None, is_some}
+use Rattle.std.specs.Prelude.{None, is_some}
 use Rattle.std.specs.List.{AllByRecursion}
 use Rattle.std.specs.Cmp.{nat_cmp_is}
 use Rattle.std.specs.Cmp.Lexicographic.{slice_cmp}
@@ -18,17 +18,17 @@ use Rattle.box_specs.specs.declared.certificate.Cutoff.{Cutoff}
 use Rattle.box_specs.specs.declared.certificate.Cutoff.TheVariants.{After, From, Never}
 use Rattle.box_specs.specs.Answer.{is_match, is_pass}
 use Rattle.box_specs.specs.Landscape.{Grade, IsLawful, IsSound, Land, fails, first_from, is_admitted, is_before, is_shut, light_of, limit_of, passes, unsure}
-use Rattle.box_specs.specs.Meaning.{IsKept, IsPassing, IsUnsure, Means, MeansClaim, MeansFor, SettlesAll}
+use Rattle.box_specs.specs.Meaning.{IsKept, IsPassing, Means, MeansClaim, MeansFor}
 use Rattle.box_specs.specs.Span.{IsWithin, Span, is_single, same_steps}
 use Rattle.box_specs.specs.Splits.{CutAt, is_cut, lower_half, upper_half}
-use Rattle.box_specs.specs.Validity.{AllHold, IsValid, IsValidFor, after, are_trees, corners, cutoff_of, first_failure, holds, is_dear, is_listed, is_pass_line, is_undecided_line, is_unsure, matched_of, splits}
-use Rattle.box_specs.proofs.Answers.{never_before_itself, not_before_trans, not_both_before}
+use Rattle.box_specs.specs.Validity.{AllHold, IsValid, IsValidFor, after, are_trees, corners, cutoff_of, first_failure, holds, is_dear, is_listed, is_pass_line, is_undecided_line, is_unsure, matched_of}
+use Rattle.box_specs.proofs.Answers.{never_before_itself, not_before_trans, not_both_before, pass_of}
 use Rattle.box_specs.proofs.Cuts.{halves_partition}
 use Rattle.box_specs.proofs.Spans.{up_to_both}
 use Rattle.cert_check.proofs.Exact.{valid_if}
 use Rattle.cert_check.proofs.Order.{differs, same_is}
 use Rattle.cert_check.proofs.Parts.{after_parts, corner_within, top_part, within_part}
-use Rattle.cert_check.proofs.Within.{at_most}
+use Rattle.box_specs.proofs.Tests.{at_most}
 
 nat_not_less : (a b : ℕ) → b ≤ a → is_lt (nat_cmp a b) ≡ false
 nat_not_less a b h = elim (cases_lt b a) as (λ _. is_lt (nat_cmp a b) ≡ false) [
@@ -235,11 +235,6 @@ module _ (l : Land) (lawful : IsLawful l) where
               let own = All-contains (λ r. (is_admitted l r ≡ true) × (l.grade r ≡ unsure)) undecided (get_or listed k d) all_unsure (v.undecided.each k d lt) in
               record { grid = v.undecided.grid k d lt; admitted = own.0; verdict = own.1 };
         }
-
-pass_of : (g : Grade) → is_pass g ≡ true → g ≡ passes
-pass_of passes e = refl
-pass_of fails e = absurd (false≢true e)
-pass_of unsure e = absurd (false≢true e)
 
 -- a claim means what its recipe, if it is a match, and its cutoff mean
 claim_means : (l : Land) (claim : Claim) (listed : List (List ℕ)) → MeansFor l (cutoff_of claim) (matched_of claim) listed → MeansClaim l listed claim

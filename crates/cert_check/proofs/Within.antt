@@ -1,13 +1,12 @@
 -- Recipes within a box, as the test finds them.
-use Rattle.std.proofs.Common.{◌≡◌, if◌then◌else◌, subst, ◌+◌, ◌<◌, ◌≤◌, ◌&&◌, ℕ, zero, suc, List, [], ◌∷◌, Bool, true, false, nat_le, length, get_or, drop, add-one, refl, sym, ap, ◌∙◌, arith}
+use Rattle.std.proofs.Common.{◌≡◌, if◌then◌else◌, subst, ◌+◌, ◌<◌, ◌&&◌, ℕ, zero, suc, List, [], ◌∷◌, Bool, true, false, nat_le, length, get_or, drop, add-one, refl, sym, ap, ◌∙◌, arith}
 use Rattle.std.proofs.Math.Seq.{drop-cons}
 use Rattle.std.proofs.lemmas.Bool.{and_parts}
-use Rattle.std.proofs.lemmas.Bool.Decides.{nat_tests}
 use Rattle.price_grid.specs.Grid.{IsUpTo}
 use Rattle.std.specs.Prelude.{Option, Some, None}
 use Rattle.std.specs.List.{AllByRecursion}
 use Rattle.box_specs.specs.declared.certificate.Cutoff.{Cutoff}
-use Rattle.box_specs.specs.declared.certificate.Cutoff.TheVariants.{After, From, Never}
+use Rattle.box_specs.specs.declared.certificate.Cutoff.TheVariants.{Never}
 use Rattle.box_specs.specs.declared.certificate.Claim.{Claim}
 use Rattle.box_specs.specs.declared.certificate.Claim.TheVariants.{Floor, Match, NoMatch}
 use Rattle.box_specs.specs.declared.certificate.Why.{Why}
@@ -17,7 +16,8 @@ use Rattle.box_specs.specs.Order.{IsRising}
 use Rattle.box_specs.specs.Span.{IsBox, IsWithin, Span}
 use Rattle.box_specs.specs.Validity.{cutoff_of, is_early, is_in_grid, is_later, is_within, list_failure, matched_of}
 use Rattle.cert_check.specs.Ready.{CutoffIsWithin, IsReady, IsSorted, previous_of}
-use Rattle.cert_check.proofs.Order.{before_trans}
+use Rattle.box_specs.proofs.Answers.{before_trans}
+use Rattle.box_specs.proofs.Tests.{at_most, le_test}
 
 pub within_step : (steps low high : List ℕ) (i : ℕ) → i < length steps → i < length low → i < length high
     → is_within (drop i steps) (drop i low) (drop i high)
@@ -34,9 +34,6 @@ other_length (n ∷ steps) (l ∷ low) (m ∷ high) h = go (nat_le l n && nat_le
   go true e = e
   go false e = refl
 
-pub at_most : (a b : ℕ) → nat_le a b ≡ true → a ≤ b
-at_most a b h = grind (arith, nat_tests)
-
 -- what the test finds lies in the box
 pub within_is : (steps low high : List ℕ) → IsUpTo low high → is_within steps low high ≡ true → IsUpTo low steps × IsUpTo steps high
 within_is [] [] [] box h = (tt, tt)
@@ -51,9 +48,6 @@ within_is (n ∷ steps) (l ∷ low) (m ∷ high) box h =
     ((at_most l n inner.0, rest.0), (at_most n m inner.1, rest.1))
 
 -- a recipe that lies in a box passes the test
-le_test : (m n : ℕ) → m ≤ n → nat_le m n ≡ true
-le_test m n h = grind (arith, nat_tests, h)
-
 pub within_test : (r low high : List ℕ) → IsUpTo low r → IsUpTo r high → is_within r low high ≡ true
 within_test [] [] high h k = refl
 within_test [] (x ∷ low) high h k = absurd h

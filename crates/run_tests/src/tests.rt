@@ -7,4 +7,5 @@ mod promises;
 mod refusals;
 mod reports;
 mod searches;
+mod several;
 mod texts;

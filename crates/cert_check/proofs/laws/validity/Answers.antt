@@ -1,4 +1,3 @@
-use Rattle.box_specs.specs.Landscape.{IsLawful}
 use Rattle.cert_check.proofs.Exact.{fails_unless_valid}
 use Rattle.cert_check.proofs.Plain.{grid_is_listed}
 use Rattle.cert_check.proofs.Sound.{means_for, valid_means}

@@ -4,14 +4,13 @@ use Rattle.std.specs.Prelude.{Option, Some, None, IfSome, IsSome}
 use Rattle.std.specs.BTreeMap.{BTreeMap, IsLowerBound, Updates, get}
 use Rattle.std.specs.Ordering.{is_eq, is_gt}
 use Rattle.std.proofs.lemmas.Bool.{false≢true}
-use Rattle.box_specs.specs.Span.{Span}
 use Rattle.box_specs.specs.Tree.{Spot, spot_cmp}
-use Rattle.box_search.specs.Frontier.{with_entry, without}
-use Rattle.box_search.specs.Hand.{IsAhead, IsFirst, with_hand}
+use Rattle.box_search.specs.State.{with_entry, without}
+use Rattle.box_search.specs.Frontier.{IsAhead, IsFirst, with_hand}
 use Rattle.box_search.specs.Places.{at, place, place_cmp, spot}
 use Rattle.box_search.specs.declared.place.Place.{Place}
 use Rattle.box_search.proofs.Endings.{equal_itself}
-use Rattle.box_search.proofs.Frontier.{spot_same}
+use Rattle.box_search.proofs.Judging.{spot_same}
 use Rattle.box_search.proofs.Orders.{not_both, not_itself, precedes, precedes_swapped}
 
 module _ {X : Type 0} (q : Spot) (b : X) (f : Spot → Option X) (ahead : (z : Spot) (c : X) → f z ≡ Some c → precedes q z ≡ true) where

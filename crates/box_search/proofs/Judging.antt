@@ -7,7 +7,7 @@ use Rattle.std.specs.Cmp.{tied_itself}
 use Rattle.std.specs.Cmp.Lexicographic.{slice_cmp}
 use Rattle.std.specs.declared.cmp.Ordering.{Ordering}
 use Rattle.std.specs.declared.cmp.Ordering.TheVariants.{Equal, Greater, Less}
-use Rattle.std.proofs.lemmas.Bool.{cases_lt, false≢true, or_right, true≢false}
+use Rattle.std.proofs.lemmas.Bool.{cases_lt, false≢true, true≢false}
 use Rattle.std.proofs.lemmas.List.Quantifiers.{all_pairs_push}
 use Rattle.std.proofs.lemmas.List.Elements.{All-get_or, All-push, All-weaker, Contains-append_left, Contains-push}
 use Rattle.price_grid.specs.Order.{key_cmp}
@@ -15,20 +15,21 @@ use Rattle.std.proofs.lemmas.Option.{none-some}
 use Rattle.box_specs.specs.declared.certificate.CertLine.{CertLine}
 use Rattle.box_specs.specs.Canonical.{IsPart, line_of}
 use Rattle.box_specs.specs.Order.{IsRising}
-use Rattle.box_specs.specs.Landscape.{IsLawful, Land, is_before, is_shut, key_of, IsSound}
+use Rattle.box_specs.specs.Landscape.{IsLawful, Land, is_before, key_of, IsSound}
 use Rattle.box_specs.specs.Span.{IsInside, IsWithin, Span, is_single}
 use Rattle.box_specs.specs.Splits.{cut_of, lower_half, upper_half}
 use Rattle.box_specs.specs.Tree.{Spot, Tree, count, fork, leaf, root, spot_cmp, spot_of, tree_of}
 use Rattle.box_specs.specs.Validity.{is_pass_line, is_undecided_line}
 use Rattle.box_specs.proofs.Cuts.{from_lower, from_upper, in_lower, in_upper, not_both as not_both_halves}
-use Rattle.box_search.specs.Frontier.{IsAt, IsCovered, IsUndecided, State, done_in, is_done, with_entry, without}
-use Rattle.box_search.proofs.Orders.{IsTied, by, equal_spot, key_not_before, not_after, not_both, not_itself, on_before, precedes, spots_are_ordered, tied}
+use Rattle.box_search.specs.State.{IsAt, IsCovered, IsRecipe, HasRecipes, State, done_in, is_done, with_entry, without}
+use Rattle.box_search.proofs.Orders.{IsTied, equal_spot, key_not_before, not_after, not_both, not_itself, on_before, precedes, spots_are_ordered, tied}
 use Rattle.box_specs.proofs.Keys.{equal_one, equal_two, same_list, same_number, tied_keys}
-use Rattle.box_search.proofs.Ranks.{alike, at_sound, at_tree, below_after, not_false, not_true, whole}
+use Rattle.box_search.proofs.Ranks.{alike, at_sound, at_tree, below_after, whole}
+use Rattle.box_specs.proofs.Tests.{both_ways, by, not_false, not_true, some_same}
 use Rattle.box_search.specs.Trees.{IsSoundTree}
-use Rattle.box_search.proofs.Trees.{count_le, count_lt, disjoint, halved, part_deep, part_inside, part_tree, sound_of}
+use Rattle.box_search.proofs.Trees.{alone, count_le, count_lt, disjoint, halved, part_deep, part_inside, part_tree, sound_of}
 use Rattle.box_specs.proofs.Spans.{corner_within, inside_itself, within_inside}
-use Rattle.box_search.proofs.Walks.{undecided}
+use Rattle.box_search.proofs.Walks.{passing, undecided}
 
 -- places that compare equal are the same
 pub spot_same : (a b : Spot) → is_eq (spot_cmp a b) ≡ true → a ≡ b
@@ -42,17 +43,6 @@ spot_same a b h = go (spot_cmp a b) refl h where
       let steps = same_list a.key.steps b.key.steps (equal_two (nat_cmp a.key.cost b.key.cost) (slice_cmp nat_cmp a.key.steps b.key.steps) key) in
       let depth = same_number a.depth b.depth (equal_two (key_cmp a.key b.key) (nat_cmp a.depth b.depth) e) in
       λ i. record { key = record { cost = cost i; steps = steps i }; depth = depth i }
-
-pub both_ways : (s t : Bool) → (s ≡ true → t ≡ true) → (t ≡ true → s ≡ true) → s ≡ t
-both_ways true t f g = sym (f refl)
-both_ways false true f g = g refl
-both_ways false false f g = refl
-
-pub some_same : {X : Type 0} (a b : X) → Some a ≡ Some b → a ≡ b
-some_same {X} a b e = ap take e where
-  take : Option X → X
-  take None = a
-  take (Some x) = x
 
 pub entry_cases : {X : Type 0} (q : Spot) (x : X) (f : Spot → Option X) (z : Spot) (b : X) → with_entry q x f z ≡ Some b → ((q ≡ z) × (x ≡ b)) ⊎ (f z ≡ Some b)
 entry_cases {X} q x f z b h = go (is_eq (spot_cmp q z)) refl h where
@@ -186,7 +176,7 @@ pub equal_test : (a b : Spot) → precedes a b ≡ false → precedes b a ≡ fa
 equal_test a b h k = ap is_eq (equal_spot a b h k)
 
 -- judging the first box that waits
-module _ (l : Land) (lawful : IsLawful l) (f fnew : Spot → Option Span) (g : Spot → Option CertLine) (last : Option Spot) (n : ℕ) (listed : List (List ℕ)) (d : ℕ) (u : Tree) where
+module _ (l : Land) (lawful : IsLawful l) (f fnew : Spot → Option Span) (g : Spot → Option CertLine) (last : Option Spot) (n : ℕ) (matched listed : List (List ℕ)) (d : ℕ) (u : Tree) where
   abbrev Q : Spot
   Q = spot_of l d (root u)
 
@@ -205,7 +195,7 @@ module _ (l : Land) (lawful : IsLawful l) (f fnew : Spot → Option Span) (g : S
     pub keeps : (z : Spot) (b : Span) → IsAt l z b → f z ≡ Some b → is_eq (spot_cmp Q z) ≡ false → fnew z ≡ Some b
     pub below : (e : ℕ) (v : Tree) → IsPart l u d e v → ((e ≡ d) × (v ≡ u)) ⊎ IsCovered l fnew e v
 
-  module _ (s : State l f g last n listed None) (here : f Q ≡ Some (root u)) (at_u : IsPart l (tree_of l) 0 d u)
+  module _ (s : State l f g last n matched listed) (here : f Q ≡ Some (root u)) (at_u : IsPart l (tree_of l) 0 d u)
       (least : (z : Spot) (b : Span) → f z ≡ Some b → precedes z Q ≡ false) (t : Turned) where
     -- each place judged so far stands before this one
     earlier : (z : Spot) → is_done last z ≡ true → precedes z Q ≡ true
@@ -360,81 +350,76 @@ module _ (l : Land) (lawful : IsLawful l) (f fnew : Spot → Option Span) (g : S
       | inr c ↦ omega (arith, c.depth, s.shallow Q (root u) here)
     ]
 
-    -- the undecided recipes, with that of this box or without it
-    abbrev pub one_more : Bool → List (List ℕ)
-    one_more c = if c then listed ++ (root u).lo ∷ [] else listed
+    -- the recipes of the lines that pass a test, with that of this box or without it
+    abbrev pub one_more : Bool → List (List ℕ) → List (List ℕ)
+    one_more c recipes = if c then recipes ++ (root u).lo ∷ [] else recipes
 
-    older_undecided : (r : List ℕ) → IsUndecided l last r → IsUndecided l (Some Q) r
-    older_undecided r o = record { depth = o.depth; part = o.part; at = o.at; judged = older (spot_of l o.depth (root o.part)) o.judged; line = o.line; corner = o.corner }
+    module _ (test : CertLine → Bool) (lone : (b : Span) → IsSound l b → test (line_of l b) ≡ true → is_single b ≡ true) (recipes : List (List ℕ)) (old : HasRecipes l test last n recipes) where
+      older_recipe : (r : List ℕ) → IsRecipe l test last r → IsRecipe l test (Some Q) r
+      older_recipe r o = record { depth = o.depth; part = o.part; at = o.at; judged = older (spot_of l o.depth (root o.part)) o.judged; line = o.line; corner = o.corner }
 
-    alone : (v : Tree) → IsSoundTree l v → is_single (root v) ≡ true → leaf (root v) ≡ v
-    alone (leaf b) i h = refl
-    alone (fork b x y) i h = absurd (false≢true (sym i.1 ∙ or_right (is_shut l b) (is_single b) h))
+      before_this : test (line_of l (root u)) ≡ true → (r : List ℕ) → IsRecipe l test last r → is_before l r (root u).lo ≡ true
+      before_this h r o =
+          let v = o.part in
+          let i = at_tree l lawful o.depth v o.at in
+          let one = alone l v i (lone (root v) (at_sound l lawful o.depth v o.at) o.line) in
+          let two = alone l u (at_tree l lawful d u at_u) (lone (root u) (at_sound l lawful d u at_u) h) in
+          let soon = earlier (spot_of l o.depth (root v)) o.judged in
+          let key = key_not_before Q (spot_of l o.depth (root v)) (not_both (spot_of l o.depth (root v)) Q soon) in
+          subst (λ w. is_before l w (root u).lo ≡ true) o.corner (by (is_before l (root v).lo (root u).lo) (λ y. y)
+          (λ y.
+          let same : (root v).lo ≡ (root u).lo = tied_keys (key_of l (root v).lo) (key_of l (root u).lo) y key in
+          let leaf_v = subst (λ w. IsPart l (tree_of l) 0 o.depth w) (sym one) o.at in
+          let leaf_u = subst (λ w. IsPart l (tree_of l) 0 d w) (sym two) at_u in
+          let x = alike l lawful o.depth d (root v) u leaf_v at_u same in
+          let z = alike l lawful d o.depth (root u) v leaf_u o.at (sym same) in
+          let depth : o.depth ≡ d = omega (arith, x, z) in
+          let spots = not_itself Q in
+          absurd (false≢true (sym spots ∙ subst (λ w. precedes w Q ≡ true) (λ k. record { key = key_of l (same k); depth = depth k }) soon))))
 
-    before_this : is_undecided_line (line_of l (root u)) ≡ true → (r : List ℕ) → IsUndecided l last r → is_before l r (root u).lo ≡ true
-    before_this h r o =
-        let v = o.part in
-        let i = at_tree l lawful o.depth v o.at in
-        let one = alone v i (undecided l (root v) lawful (at_sound l lawful o.depth v o.at) o.line).0.alone in
-        let two = alone u (at_tree l lawful d u at_u) (undecided l (root u) lawful (at_sound l lawful d u at_u) h).0.alone in
-        let soon = earlier (spot_of l o.depth (root v)) o.judged in
-        let key = key_not_before Q (spot_of l o.depth (root v)) (not_both (spot_of l o.depth (root v)) Q soon) in
-        subst (λ w. is_before l w (root u).lo ≡ true) o.corner (by (is_before l (root v).lo (root u).lo) (λ y. y)
-        (λ y.
-        let same : (root v).lo ≡ (root u).lo = tied_keys (key_of l (root v).lo) (key_of l (root u).lo) y key in
-        let leaf_v = subst (λ w. IsPart l (tree_of l) 0 o.depth w) (sym one) o.at in
-        let leaf_u = subst (λ w. IsPart l (tree_of l) 0 d w) (sym two) at_u in
-        let x = alike l lawful o.depth d (root v) u leaf_v at_u same in
-        let z = alike l lawful d o.depth (root u) v leaf_u o.at (sym same) in
-        let depth : o.depth ≡ d = omega (arith, x, z) in
-        let spots = not_itself Q in
-        absurd (false≢true (sym spots ∙ subst (λ w. precedes w Q ≡ true) (λ k. record { key = key_of l (same k); depth = depth k }) soon))))
+      rising : (c : Bool) → (c ≡ true → test (line_of l (root u)) ≡ true) → IsRising l (one_more c recipes)
+      rising false h = old.rising
+      rising true h = all_pairs_push (λ a b. is_before l a b ≡ true) recipes (root u).lo old.rising
+          (λ k w x. before_this (h refl) (get_or recipes k w) (All-get_or (IsRecipe l test last) recipes k w x old.each))
 
-    rising : (c : Bool) → (c ≡ true → is_undecided_line (line_of l (root u)) ≡ true) → IsRising l (one_more c)
-    rising false h = s.rising
-    rising true h = all_pairs_push (λ a b. is_before l a b ≡ true) listed (root u).lo s.rising (λ k w x. before_this (h refl) (get_or listed k w) (All-get_or (IsUndecided l last) listed k w x s.each))
+      each : (c : Bool) → (c ≡ true → test (line_of l (root u)) ≡ true) → All (IsRecipe l test (Some Q)) (one_more c recipes)
+      each false h = All-weaker (IsRecipe l test last) (IsRecipe l test (Some Q)) older_recipe recipes old.each
+      each true h =
+          All-push (IsRecipe l test (Some Q)) recipes (root u).lo (All-weaker (IsRecipe l test last) (IsRecipe l test (Some Q)) older_recipe recipes old.each)
+          (record { depth = d; part = u; at = at_u; judged = itself; line = h refl; corner = refl })
 
-    each : (c : Bool) → (c ≡ true → is_undecided_line (line_of l (root u)) ≡ true) → All (IsUndecided l (Some Q)) (one_more c)
-    each false h = All-weaker (IsUndecided l last) (IsUndecided l (Some Q)) older_undecided listed s.each
-    each true h =
-        All-push (IsUndecided l (Some Q)) listed (root u).lo (All-weaker (IsUndecided l last) (IsUndecided l (Some Q)) older_undecided listed s.each)
-        (record { depth = d; part = u; at = at_u; judged = itself; line = h refl; corner = refl })
+      every : (c : Bool) → c ≡ test (line_of l (root u)) → (e : ℕ) (v : Tree) → IsPart l (tree_of l) 0 e v → done_in l (Some Q) e (root v) ≡ true → test (line_of l (root v)) ≡ true
+          → Contains (one_more c recipes) (root v).lo
+      every false h e v i x y = elim (newly e v i x) as (λ _. Contains recipes (root v).lo) [
+        | inl z ↦ old.every e v i z y
+        | inr z ↦ absurd (false≢true (h ∙ (λ k. test (line_of l (root (sym z.1 k)))) ∙ y))
+      ]
+      every true h e v i x y = elim (newly e v i x) as (λ _. Contains (recipes ++ (root u).lo ∷ []) (root v).lo) [
+        | inl z ↦ Contains-append_left recipes ((root u).lo ∷ []) (root v).lo (old.every e v i z y)
+        | inr z ↦ subst (λ w. Contains (recipes ++ (root u).lo ∷ []) (root w).lo) (sym z.1) (Contains-push recipes (root u).lo)
+      ]
 
-    every : (c : Bool) → (c ≡ is_undecided_line (line_of l (root u))) → (e : ℕ) (v : Tree) → IsPart l (tree_of l) 0 e v → done_in l (Some Q) e (root v) ≡ true → is_undecided_line (line_of l (root v)) ≡ true
-        → Contains (one_more c) (root v).lo
-    every false h e v i x y = elim (newly e v i x) as (λ _. Contains listed (root v).lo) [
-      | inl z ↦ s.every e v i z y
-      | inr z ↦ absurd (false≢true (h ∙ (λ k. is_undecided_line (line_of l (root (sym z.1 k)))) ∙ y))
-    ]
-    every true h e v i x y = elim (newly e v i x) as (λ _. Contains (listed ++ (root u).lo ∷ []) (root v).lo) [
-      | inl z ↦ Contains-append_left listed ((root u).lo ∷ []) (root v).lo (s.every e v i z y)
-      | inr z ↦ subst (λ w. Contains (listed ++ (root u).lo ∷ []) (root w).lo) (sym z.1) (Contains-push listed (root u).lo)
-    ]
+      short : (c : Bool) → length (one_more c recipes) ≤ n + 1
+      short false = omega (arith, old.short)
+      short true = omega (arith, old.short, length-append recipes ((root u).lo ∷ []))
 
-    short : (c : Bool) → length (one_more c) ≤ n + 1
-    short false = omega (arith, s.short)
-    short true = omega (arith, s.short, length-append listed ((root u).lo ∷ []))
+      has_more : HasRecipes l test (Some Q) (n + 1) (one_more (test (line_of l (root u))) recipes)
+      has_more = record {
+        rising = rising (test (line_of l (root u))) (λ x. x);
+        each = each (test (line_of l (root u))) (λ x. x);
+        every = every (test (line_of l (root u))) refl;
+        short = short (test (line_of l (root u)));
+      }
 
-    clean : (won : Option (List ℕ)) → (is_pass_line (line_of l (root u)) ≡ true → won ≡ Some (root u).lo)
-        → (e : ℕ) (v : Tree) → IsPart l (tree_of l) 0 e v → done_in l (Some Q) e (root v) ≡ true → is_pass_line (line_of l (root v)) ≡ true → won ≡ Some (root v).lo
-    clean won h e v i x y = elim (newly e v i x) as (λ _. won ≡ Some (root v).lo) [
-      | inl z ↦ absurd (none-some (root v).lo (s.clean e v i z y))
-      | inr z ↦ h (subst (λ w. is_pass_line (line_of l (root w)) ≡ true) z.1 y) ∙ (λ k. Some (root (sym z.1 k)).lo)
-    ]
-
-    pub step : (won : Option (List ℕ)) → (is_pass_line (line_of l (root u)) ≡ true → won ≡ Some (root u).lo)
-        → State l fnew (with_entry Q (line_of l (root u)) g) (Some Q) (n + 1) (one_more (is_undecided_line (line_of l (root u)))) won
-    step won h = record {
+    pub step : State l fnew (with_entry Q (line_of l (root u)) g) (Some Q) (n + 1) (one_more (is_pass_line (line_of l (root u))) matched) (one_more (is_undecided_line (line_of l (root u))) listed)
+    step = record {
       waits = waits_at;
       later = later;
       disjoint = disjoint_after;
       covers = covers;
       counted = counted;
       written = written;
-      clean = clean won h;
-      rising = rising (is_undecided_line (line_of l (root u))) (λ x. x);
-      each = each (is_undecided_line (line_of l (root u))) (λ x. x);
-      every = every (is_undecided_line (line_of l (root u))) refl;
+      passing = has_more is_pass_line (λ b i h. (passing l b h).0.alone) matched s.passing;
+      undecided = has_more is_undecided_line (λ b i h. (undecided l b lawful i h).0.alone) listed s.undecided;
       shallow = shallow;
-      short = short (is_undecided_line (line_of l (root u)));
     }
