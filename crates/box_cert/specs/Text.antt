@@ -8,7 +8,7 @@ use Rattle.box_specs.specs.declared.certificate.CertRule.{CertRule}
 use Rattle.box_specs.specs.declared.certificate.CertRule.TheVariants.{BadClaim, BadHeader, BadLine, Left, Missing}
 use Rattle.box_specs.specs.declared.certificate.Claim.{Claim}
 use Rattle.box_specs.specs.declared.certificate.Claim.TheVariants.{Floor, Match, NoMatch}
-use Rattle.box_core.specs.Ranges.{ClaimFits, LineFits, StepsFit}
+use Rattle.box_core.specs.Ranges.{AreOfLength, ClaimFits, LineFits, StepsFit, first_length, recipes_of}
 use Rattle.box_specs.specs.Validity.{are_trees}
 use Rattle.box_cert.specs.declared.fault.CertError.{CertError}
 use Rattle.box_cert.specs.declared.fault.CertError.TheVariants as errors
@@ -162,3 +162,11 @@ pub record IsCertFor (dims : ℕ) (c : Content) : Type 0 where
   pub few : length c.listed ≤ 1000000
   pub listed : AreRecipes dims (length c.listed) c.listed
   pub tree : IsTree c.lines
+
+-- the dyes of the recipes of a certificate, 1 where it has none
+abbrev pub dyes_of : Content → ℕ
+dyes_of c = first_length (recipes_of c.claim c.listed)
+
+-- all recipes of a certificate are of dims dyes, 1 to 12
+abbrev pub HaveDyes : ℕ → Content → Type 0
+HaveDyes dims c = AreOfLength dims (recipes_of c.claim c.listed)
