@@ -7,6 +7,7 @@ mod Wholes
 mod TextLines
 mod Prefixes
 mod Steps
+mod Drafting
 mod Parts
 mod Numerals
 mod Takes

@@ -16,10 +16,9 @@ use Rattle.box_specs.specs.declared.certificate.Claim.TheVariants.{Floor, Match,
 use Rattle.box_cert.specs.Lines.{cut_at, lettered_line, line_of, number_before, numbers_at, recipe_of, split_of}
 use Rattle.box_cert.specs.Numbers.{number_of}
 use Rattle.box_cert.specs.Spelling.{Content, as_line, cert_text, claim_text, count_text, head_text, line_text, lines_text, numbers_text, recipes_text}
-use Rattle.box_cert.specs.Text.{◌>>=◌, Cursor, byte_first, cert_of, claim_in, claim_of, count_in, count_of, cursor_of, header_of, line_result, line_then, lines_of, next_of, nothing_left, parts_of, recipes_at, trees_at, trees_from}
+use Rattle.box_cert.specs.Text.{◌>>=◌, Cursor, byte_first, cert_of, claim_in, claim_of, count_in, count_of, cursor_of, header_of, line_result, line_then, lines_of, next_of, nothing_left, parts_of, recipes_at, then_claim, then_count, then_end, then_list, then_tree, trees_at, trees_from}
 use Rattle.box_cert.proofs.Cuts.{cut_takes}
 use Rattle.box_cert.proofs.Numerals.{number_takes}
-use Rattle.box_cert.proofs.Parts.{then_claim, then_count, then_end, then_list, then_tree}
 
 err_ok : {A : Type 0} (e : CertFault) (x : A) → Err e ≡ Ok x → ⊥
 err_ok e x h = cc
@@ -292,9 +291,9 @@ cert_takes dims text c h =
     let t2 = next_takes BadClaim (claim_of dims) h1.0.1 h2.0 h2.1 in
     let h3 = bind_ok (next_of BadClaim count_of h2.0.1) (then_list dims h2.0.0) c h2.2 in
     let t3 = next_takes BadClaim count_of h2.0.1 h3.0 h3.1 in
-    let h4 = bind_ok (recipes_at dims h3.0.0 h3.0.1) (then_tree dims h2.0.0) c h3.2 in
+    let h4 = bind_ok (recipes_at dims h3.0.0 h3.0.1) (then_tree h2.0.0) c h3.2 in
     let t4 = recipes_takes dims h3.0.0 h3.0.1 h4.0 h4.1 in
-    let h5 = bind_ok (trees_at 1 h4.0.1) (then_end dims h2.0.0 h4.0.0) c h4.2 in
+    let h5 = bind_ok (trees_at 1 h4.0.1) (then_end h2.0.0 h4.0.0) c h4.2 in
     let p6 = h5.0.1 in
     let t5 = trees_take 1 h4.0.1.number h4.0.1.lines h4.0.1.left h5.0 h5.1 in
     let last = end_takes (record { claim = h2.0.0; listed = h4.0.0; lines = h5.0.0 }) c p6.number p6.lines p6.left h5.2 in

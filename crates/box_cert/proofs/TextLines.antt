@@ -23,3 +23,10 @@ lines_cut (b ∷ bs) = go (b == 10) (lines_cut bs) where
       → (if q then ([] ∷ (lines_of bs).0, (lines_of bs).1) else byte_first b (lines_of bs)) ≡ split_at (b ∷ bs) (if q then Some ([], bs) else option_map (onto b) (cut_at 10 bs))
   go true h = refl
   go false h = ap (byte_first b) h ∙ later b bs (cut_at 10 bs)
+
+-- the lines after the first are those of the text after it
+pub line_first : (text line tail : List ℕ) → cut_at 10 text ≡ Some (line, tail) → lines_of text ≡ (line ∷ (lines_of tail).0, (lines_of tail).1)
+line_first text line tail e = lines_cut text ∙ ap (split_at text) e
+
+pub no_line : (text : List ℕ) → cut_at 10 text ≡ None → lines_of text ≡ ([], text)
+no_line text e = lines_cut text ∙ ap (split_at text) e

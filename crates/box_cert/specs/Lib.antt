@@ -1,3 +1,4 @@
+pub mod Drafts
 pub mod Lines
 pub mod Numbers
 pub mod Spelling

@@ -1,5 +1,5 @@
 -- The text of a certificate, line by line, and its first fault.
-use Rattle.std.specs.Prelude.{◌≡◌, ◌==◌, ◌+◌, ◌^◌, ◌≤◌, ℕ, zero, suc, true, All, if◌then◌else◌, List, [], ◌∷◌, codes, length, Option, Some, None, option_map, Result, Ok, Err}
+use Rattle.std.specs.Prelude.{◌≡◌, ◌==◌, ◌+◌, ◌^◌, ◌≤◌, ℕ, zero, suc, true, All, if◌then◌else◌, List, [], ◌∷◌, ◌++◌, codes, length, Option, Some, None, option_map, Result, Ok, Err}
 use Rattle.std.specs.Str.{bytes_eq}
 use Rattle.box_specs.specs.declared.certificate.CertFault.{CertFault}
 use Rattle.box_specs.specs.declared.certificate.CertLine.{CertLine}
@@ -144,6 +144,26 @@ abbrev pub nothing_left : {A : Type 0} → A → ℕ → List (List ℕ) → Lis
 nothing_left c number [] [] = Ok c
 nothing_left c number [] (b ∷ bs) = fault number Left
 nothing_left c number (line ∷ lines) left = fault number Left
+
+-- what was read of a list, before the rest of it
+abbrev pub with_prefix : {A : Type 0} → List A → Result (List A × Cursor) CertFault → Result (List A × Cursor) CertFault
+with_prefix prefix read = read >>= λ r. Ok (prefix ++ r.0, r.1)
+
+-- What is read after the tree, the listed recipes, the third line, the second and the first.
+abbrev pub then_end : Claim → List (List ℕ) → List CertLine × Cursor → Result Content CertFault
+then_end claim listed tree = nothing_left (record { claim = claim; listed = listed; lines = tree.0 }) tree.1.number tree.1.lines tree.1.left
+
+abbrev pub then_tree : Claim → List (List ℕ) × Cursor → Result Content CertFault
+then_tree claim listed = trees_at 1 listed.1 >>= then_end claim listed.0
+
+abbrev pub then_list : ℕ → Claim → ℕ × Cursor → Result Content CertFault
+then_list dims claim count = recipes_at dims count.0 count.1 >>= then_tree claim
+
+abbrev pub then_count : ℕ → Claim × Cursor → Result Content CertFault
+then_count dims claim = next_of BadClaim count_of claim.1 >>= then_list dims claim.0
+
+abbrev pub then_claim : ℕ → Unit {0} × Cursor → Result Content CertFault
+then_claim dims head = next_of BadClaim (claim_of dims) head.1 >>= then_count dims
 
 -- the certificate that a text spells, or its first fault
 unfoldable pub cert_of : ℕ → List ℕ → Result Content CertFault
