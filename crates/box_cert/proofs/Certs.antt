@@ -5,8 +5,10 @@ use Rattle.box_core.specs.declared.cert.Cert.{Cert}
 use Rattle.box_core.specs.Ranges.{AreOfLength, HaveOneLength, recipes_of}
 use Rattle.box_specs.specs.declared.certificate.Claim.{Claim}
 use Rattle.box_specs.specs.declared.certificate.Claim.TheVariants.{Floor, Match, NoMatch}
-use Rattle.box_cert.specs.Spelling.{HasNumbers, as_line, content, numbers_text, recipes_text}
-use Rattle.box_cert.specs.Text.{HasDims, HaveDyes, IsCertFor}
+use Rattle.box_cert.specs.Claims.{HasDims, HasNumbers}
+use Rattle.box_cert.specs.LineTexts.{as_line, numbers_text, recipes_text}
+use Rattle.box_cert.specs.Spelling.{content}
+use Rattle.box_cert.specs.Text.{HaveDyes, IsCertFor}
 
 -- the spelling of recipes as the code holds them is that of plain lists
 pub recipes_same : (rs : List (ArrayVec ℕ)) → flat_map (λ (s : ArrayVec ℕ). as_line (numbers_text s.items)) rs ≡ recipes_text (map (λ s. s.items) rs)

@@ -14,16 +14,19 @@ use Rattle.box_cert.specs.declared.draft.Draft.{Draft}
 use Rattle.box_cert.specs.declared.draft.Part.{Part}
 use Rattle.box_cert.specs.declared.draft.Part.TheVariants as parts
 use Rattle.box_cert.specs.declared.fault.CertError.TheVariants as errors
-use Rattle.box_cert.specs.Drafts.{IsBegun, is_whole, part_before, recipes, still, still_at, to_come, trees_of}
+use Rattle.box_cert.specs.Drafts.{IsBegun, is_whole, part_before, recipes, still, still_at, then_list, to_come, trees_of}
+use Rattle.box_cert.specs.Spelling.{cert_form, made}
 use Rattle.box_cert.specs.Lines.{line_of, recipe_of}
 use Rattle.box_cert.specs.Numbers.{number_of}
-use Rattle.box_cert.specs.Text.{◌>>=◌, AreRecipes, Cursor, IsTree, cert_of, cursor_of, fault, header_of, line_result, lines_of, next_of, parts_of, recipes_at, then_claim, then_end, then_tree, trees_at, with_prefix}
+use Rattle.box_cert.specs.Form.{header_of, then_claim, then_end}
+use Rattle.box_cert.specs.Reading.{◌>>=◌, AreRecipes, Cursor, IsTree, cursor_of, fault, line_result, lines_of, next_of, parts_of, recipes_at, trees_at, with_prefix}
+use Rattle.box_cert.specs.Text.{cert_of}
 use Rattle.box_cert.proofs.Prefixes.{prefix_more, prefix_none}
 use Rattle.box_cert.proofs.Steps.{tree_fails, tree_step}
 
 -- before the tree the recipes to come are read on
-pub before : (dims : ℕ) (claim : Claim) (listed : List (List ℕ)) (k : ℕ) (p : Cursor) → still_at dims claim listed [] (part_before k) p ≡ (with_prefix listed (recipes_at dims k p) >>= then_tree claim)
-before dims claim listed zero p = ap (λ r. r >>= then_end claim listed) (prefix_none (trees_at 1 p)) ∙ sym (ap (λ xs. then_tree claim (xs, p)) (append-nil listed))
+pub before : (dims : ℕ) (claim : Claim) (listed : List (List ℕ)) (k : ℕ) (p : Cursor) → still_at dims claim listed [] (part_before k) p ≡ (with_prefix listed (recipes_at dims k p) >>= then_list claim)
+before dims claim listed zero p = ap (λ r. r >>= then_end made claim (listed ∷ [])) (prefix_none (trees_at 1 p)) ∙ sym (ap (λ xs. then_list claim (xs, p)) (append-nil listed))
 before dims claim listed (suc k) p = refl
 
 pub before_begun : (k : ℕ) (listed : List (List ℕ)) → IsBegun (part_before k) listed []
@@ -43,7 +46,7 @@ module _ (dims : ℕ) (claim : Claim) (listed : List (List ℕ)) (number : ℕ) 
   pub no_recipe : (tree : List CertLine) (more : ℕ) → recipe_of dims line ≡ None
       → still_at dims claim listed tree (parts.Recipe more) (record { number = number; lines = line ∷ lines; left = left }) ≡ fault number BadLine
   no_recipe tree more e =
-      ap (λ o. with_prefix listed (line_result number BadLine o (record { number = number + 1; lines = lines; left = left }) >>= λ r. recipes_at dims more r.1 >>= λ rs. Ok (r.0 ∷ rs.0, rs.1)) >>= then_tree claim) e
+      ap (λ o. with_prefix listed (line_result number BadLine o (record { number = number + 1; lines = lines; left = left }) >>= λ r. recipes_at dims more r.1 >>= λ rs. Ok (r.0 ∷ rs.0, rs.1)) >>= then_list claim) e
 
   -- the line is a recipe
   pub one_recipe : (tree : List CertLine) (more : ℕ) (x : List ℕ) → recipe_of dims line ≡ Some x → tree ≡ []
@@ -53,15 +56,15 @@ module _ (dims : ℕ) (claim : Claim) (listed : List (List ℕ)) (number : ℕ) 
       let p : Cursor = record { number = number + 1; lines = lines; left = left } in
       ap (λ t. still_at dims claim (listed ++ x ∷ []) t (part_before more) p) none
       ∙ before dims claim (listed ++ x ∷ []) more p
-      ∙ ap (λ r. r >>= then_tree claim) (prefix_more listed x (recipes_at dims more p))
-      ∙ sym (ap (λ o. with_prefix listed (line_result number BadLine o p >>= λ r. recipes_at dims more r.1 >>= λ rs. Ok (r.0 ∷ rs.0, rs.1)) >>= then_tree claim) e)
+      ∙ ap (λ r. r >>= then_list claim) (prefix_more listed x (recipes_at dims more p))
+      ∙ sym (ap (λ o. with_prefix listed (line_result number BadLine o p >>= λ r. recipes_at dims more r.1 >>= λ rs. Ok (r.0 ∷ rs.0, rs.1)) >>= then_list claim) e)
 
   -- the line is no line of a tree
   pub no_tree_line : (tree : List CertLine) (wanted : ℕ) → 0 < wanted → line_of line ≡ None
       → still_at dims claim listed tree (parts.Tree wanted) (record { number = number; lines = line ∷ lines; left = left }) ≡ fault number BadLine
   no_tree_line tree wanted some e =
       let p : Cursor = record { number = number; lines = line ∷ lines; left = left } in
-      ap (λ r. r >>= then_end claim listed)
+      ap (λ r. r >>= then_end made claim (listed ∷ []))
       (tree_fails wanted tree p (with_prefix tree (trees_at wanted p)) some refl (errors.Fault (record { line = number; rule = BadLine }))
       (ap (λ o. line_result number BadLine o (record { number = number + 1; lines = lines; left = left })) e))
 
@@ -72,7 +75,7 @@ module _ (dims : ℕ) (claim : Claim) (listed : List (List ℕ)) (number : ℕ) 
   one_tree_line tree wanted x some e =
       let p : Cursor = record { number = number; lines = line ∷ lines; left = left } in
       let q : Cursor = record { number = number + 1; lines = lines; left = left } in
-      ap (λ r. r >>= then_end claim listed)
+      ap (λ r. r >>= then_end made claim (listed ∷ []))
       (tree_step wanted tree p (with_prefix tree (trees_at wanted p)) some refl x (parts_of x) q (ap (λ o. line_result number BadLine o q) e) refl)
 
   -- a line follows the whole tree
@@ -114,5 +117,5 @@ pub begins : (d : Draft) (dims : ℕ) (text : List ℕ) → d.part ≡ parts.Hea
 unfolding cert_of
 begins d dims text part same number =
     ap (λ q. still_at d.dims d.claim (recipes d) d.lines.items q (record { number = d.number; lines = (lines_of text).0; left = (lines_of text).1 })) part
-    ∙ ap (λ k. next_of BadHeader header_of (record { number = d.number; lines = (lines_of text).0; left = (lines_of text).1 }) >>= then_claim k) same
-    ∙ ap (λ n. next_of BadHeader header_of (cursor_of n text) >>= then_claim dims) number
+    ∙ ap (λ k. next_of BadHeader (header_of cert_form.header) (record { number = d.number; lines = (lines_of text).0; left = (lines_of text).1 }) >>= then_claim cert_form made k) same
+    ∙ ap (λ n. next_of BadHeader (header_of cert_form.header) (cursor_of n text) >>= then_claim cert_form made dims) number

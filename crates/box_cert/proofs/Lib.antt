@@ -11,6 +11,8 @@ mod Drafting
 mod Parts
 mod Numerals
 mod Takes
-pub mod Again
+mod Again
+mod Forms
+pub mod CertForm
 mod OneLine
 mod WholeText

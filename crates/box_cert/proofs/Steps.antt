@@ -7,7 +7,7 @@ use Rattle.box_specs.specs.declared.certificate.CertLine.{CertLine}
 use Rattle.box_specs.specs.declared.certificate.CertRule.TheVariants.{BadLine}
 use Rattle.box_cert.specs.declared.fault.CertError.{CertError}
 use Rattle.box_cert.specs.Lines.{line_of}
-use Rattle.box_cert.specs.Text.{◌>>=◌, Cursor, FailsAs, next_of, parts_of, trees_at, with_prefix}
+use Rattle.box_cert.specs.Reading.{◌>>=◌, Cursor, FailsAs, next_of, parts_of, trees_at, with_prefix}
 use Rattle.box_cert.proofs.Prefixes.{fails_as, fails_then, onto, prefix_more, shape_on, trees_next}
 
 module _ (w : ℕ) (xs : List CertLine) (p : Cursor) (all : Result (List CertLine × Cursor) CertFault) (some : 0 < w) (h : with_prefix xs (trees_at w p) ≡ all) where

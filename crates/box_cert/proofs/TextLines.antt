@@ -2,7 +2,7 @@
 use Rattle.std.proofs.Common.{◌≡◌, ◌==◌, ℕ, Bool, true, false, List, [], ◌∷◌, refl, ap, ◌∙◌, if◌then◌else◌}
 use Rattle.std.specs.Prelude.{Option, Some, None, option_map}
 use Rattle.box_cert.specs.Lines.{cut_at}
-use Rattle.box_cert.specs.Text.{byte_first, lines_of}
+use Rattle.box_cert.specs.Reading.{byte_first, lines_of}
 
 abbrev pub split_at : List ℕ → Option (List ℕ × List ℕ) → List (List ℕ) × List ℕ
 split_at text None = ([], text)

@@ -10,8 +10,10 @@ use Rattle.box_cert.specs.declared.draft.Draft.{Draft}
 use Rattle.box_cert.specs.declared.draft.Part.{Part}
 use Rattle.box_cert.specs.declared.draft.Part.TheVariants as parts
 use Rattle.box_cert.specs.declared.fault.CertError.{CertError}
-use Rattle.box_cert.specs.Spelling.{Content}
-use Rattle.box_cert.specs.Text.{◌>>=◌, AreRecipes, Cursor, FailsAs, HasDims, claim_of, count_of, header_of, next_of, recipes_at, then_claim, then_count, then_end, then_list, then_tree, trees_at, with_prefix}
+use Rattle.box_cert.specs.Claims.{HasDims, claim_of}
+use Rattle.box_cert.specs.Form.{header_of, lists_then, then_claim, then_end, then_lists, then_tree}
+use Rattle.box_cert.specs.Reading.{◌>>=◌, AreRecipes, Cursor, FailsAs, next_of, recipes_at, trees_at, with_prefix}
+use Rattle.box_cert.specs.Spelling.{Content, cert_form, made, undecided}
 
 abbrev pub recipes : Draft → List (List ℕ)
 recipes d = map (λ s. s.items) d.listed.items
@@ -44,13 +46,17 @@ is_whole parts.Count = false
 is_whole (parts.Recipe more) = false
 is_whole (parts.Tree wanted) = wanted == 0
 
+-- what is read after the one list of a certificate
+abbrev pub then_list : Claim → List (List ℕ) × Cursor → Result Content CertFault
+then_list claim listed = then_tree made claim (listed.0 ∷ []) listed.1
+
 -- what the whole text gives, from what was read of it and from the rest of its lines
 abbrev pub still_at : ℕ → Claim → List (List ℕ) → List CertLine → Part → Cursor → Result Content CertFault
-still_at dims claim listed lines parts.Header p = next_of BadHeader header_of p >>= then_claim dims
-still_at dims claim listed lines parts.Claim p = next_of BadClaim (claim_of dims) p >>= then_count dims
-still_at dims claim listed lines parts.Count p = next_of BadClaim count_of p >>= then_list dims claim
-still_at dims claim listed lines (parts.Recipe more) p = with_prefix listed (recipes_at dims (suc more) p) >>= then_tree claim
-still_at dims claim listed lines (parts.Tree wanted) p = with_prefix lines (trees_at wanted p) >>= then_end claim listed
+still_at dims claim listed lines parts.Header p = next_of BadHeader (header_of cert_form.header) p >>= then_claim cert_form made dims
+still_at dims claim listed lines parts.Claim p = next_of BadClaim (claim_of dims) p >>= then_lists cert_form made dims
+still_at dims claim listed lines parts.Count p = lists_then dims (undecided ∷ []) (then_tree made claim) p
+still_at dims claim listed lines (parts.Recipe more) p = with_prefix listed (recipes_at dims (suc more) p) >>= then_list claim
+still_at dims claim listed lines (parts.Tree wanted) p = with_prefix lines (trees_at wanted p) >>= then_end made claim (listed ∷ [])
 
 -- the same for a draft, where these lines are to come, and then these bytes without a line feed
 abbrev pub still : Draft → List (List ℕ) → List ℕ → Result Content CertFault

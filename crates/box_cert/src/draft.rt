@@ -5,8 +5,11 @@ ghost use Rattle.std.specs.Str.{bytes_eq};
 ghost use Rattle.box_core.specs.Ranges.{ClaimFits};
 ghost use Rattle.box_cert.specs.declared.draft.Part.{Part};
 ghost use Rattle.box_cert.specs.Drafts.{IsDraft, Takes, is_whole, part_before, still};
-ghost use Rattle.box_cert.specs.Spelling.{content};
-ghost use Rattle.box_cert.specs.Text.{Gives, HasDims, IsCertFor, claim_of, count_of, header_of, parts_of};
+ghost use Rattle.box_cert.specs.Spelling.{content, undecided};
+ghost use Rattle.box_cert.specs.Claims.{HasDims, claim_of};
+ghost use Rattle.box_cert.specs.Form.{count_of};
+ghost use Rattle.box_cert.specs.Reading.{Gives, parts_of};
+ghost use Rattle.box_cert.specs.Text.{IsCertFor};
 
 use crate::fault::{CertError, fault};
 use crate::line::{read_line, read_recipe};
@@ -82,7 +85,7 @@ fn read_claim(line: &[u8], dims: usize) -> Option<Claim>
 
 /// The number of listed recipes that a line states.
 fn read_count(line: &[u8]) -> Option<u32>
-    ensures is { result ≡ count_of line.now }
+    ensures is { result ≡ count_of undecided line.now }
     ensures few { IfSome result (λ n. n ≤ 1000000) }
 {
     match cut_at(b' ', line) {

@@ -2,7 +2,8 @@
 
 ghost use Rattle.std.specs.Prelude.{◌≡◌, ◌≤◌, IfOk, length};
 ghost use Rattle.box_cert.specs.Spelling.{Content, cert_text, content};
-ghost use Rattle.box_cert.specs.Text.{Gives, IsCertFor, cert_of};
+ghost use Rattle.box_cert.specs.Reading.{Gives};
+ghost use Rattle.box_cert.specs.Text.{IsCertFor, cert_of};
 ghost use Rattle.box_cert.specs.declared.read.TheConstants.{CERT_LIMIT};
 
 use crate::draft::Draft;

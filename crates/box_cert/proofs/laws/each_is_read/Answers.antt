@@ -1,5 +1,5 @@
 use Rattle.box_cert.specs.Spelling.{content}
-use Rattle.box_cert.proofs.Again.{cert_again}
+use Rattle.box_cert.proofs.CertForm.{cert_again}
 use Rattle.box_cert.proofs.Certs.{cert_fits}
 use Rattle.box_cert.proofs.laws.each_is_read.Goals as goal
 

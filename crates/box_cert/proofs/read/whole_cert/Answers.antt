@@ -4,7 +4,7 @@ use Rattle.box_specs.specs.declared.certificate.CertFault.{CertFault}
 use Rattle.box_cert.specs.Drafts.{still}
 use Rattle.box_cert.specs.Lines.{cut_at}
 use Rattle.box_cert.specs.Spelling.{Content, content}
-use Rattle.box_cert.specs.Text.{FailsAs, Gives}
+use Rattle.box_cert.specs.Reading.{FailsAs, Gives}
 use Rattle.box_cert.proofs.Cuts.{cut_length}
 use Rattle.box_cert.proofs.Drafting.{begins}
 use Rattle.box_cert.proofs.TextLines.{line_first, no_line}

@@ -1,6 +1,7 @@
 use Rattle.std.proofs.Common.{◌≡◌, ◌+◌, ◌*◌, ◌≤◌, length}
 use Rattle.box_cert.specs.Drafts.{IsDraft, still}
-use Rattle.box_cert.specs.Text.{cert_of, lines_of}
+use Rattle.box_cert.specs.Reading.{lines_of}
+use Rattle.box_cert.specs.Text.{cert_of}
 use Rattle.box_cert.proofs.read.whole_cert.Given as goal
 
 abbrev pub invariant-loop-line : goal.invariant-loop-line

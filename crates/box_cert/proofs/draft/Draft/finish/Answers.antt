@@ -1,6 +1,6 @@
 use Rattle.std.proofs.Common.{◌∙◌, length, sym, ap, subst, arith}
 use Rattle.box_cert.specs.Drafts.{IsBegun, recipes}
-use Rattle.box_cert.specs.Text.{AreRecipes, IsTree}
+use Rattle.box_cert.specs.Reading.{AreRecipes, IsTree}
 use Rattle.box_cert.proofs.Drafting.{whole_part, whole_tree}
 use Rattle.box_cert.proofs.Parts.{one_length}
 use Rattle.box_cert.proofs.draft.Draft.finish.Goals as goal

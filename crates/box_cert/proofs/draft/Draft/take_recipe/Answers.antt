@@ -3,7 +3,7 @@ use Rattle.std.proofs.lemmas.List.{map-append}
 use Rattle.arrayvec.specs.ArrayVec.{ArrayVec}
 use Rattle.box_cert.specs.Drafts.{IsBegun, part_before, recipes, still_at, to_come, trees_of}
 use Rattle.box_cert.specs.Lines.{recipe_of}
-use Rattle.box_cert.specs.Text.{AreRecipes, Cursor}
+use Rattle.box_cert.specs.Reading.{AreRecipes, Cursor}
 use Rattle.box_cert.proofs.Drafting.{before_begun, before_come, before_trees, one_recipe, recipe_needs, recipes_more, some_line}
 use Rattle.box_cert.proofs.draft.Draft.take_recipe.Goals as goal
 

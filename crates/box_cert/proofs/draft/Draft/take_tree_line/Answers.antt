@@ -6,7 +6,7 @@ use Rattle.box_specs.specs.declared.certificate.CertLine.{CertLine}
 use Rattle.box_cert.specs.declared.draft.Part.TheVariants as parts
 use Rattle.box_cert.specs.Drafts.{IsBegun, recipes, still_at, trees_of}
 use Rattle.box_cert.specs.Lines.{line_of}
-use Rattle.box_cert.specs.Text.{Cursor}
+use Rattle.box_cert.specs.Reading.{Cursor}
 use Rattle.box_cert.proofs.Drafting.{one_tree_line, some_line}
 use Rattle.box_cert.proofs.Parts.{parts_few}
 use Rattle.box_cert.proofs.Steps.{shape_step}
