@@ -1,6 +1,6 @@
 -- The spellings of lines, of listed recipes and of trees are read as these.
-use Rattle.std.proofs.Common.{◌≡◌, ◌&&◌, ℕ, zero, suc, ◌+◌, ◌≤◌, Bool, true, false, not, All, List, [], ◌∷◌, ◌++◌, length, refl, sym, ap, ◌∙◌, arith, append_assoc, decimal, if◌then◌else◌}
-use Rattle.std.specs.Prelude.{Option, Some, None, Ok, option_map, option_and_then}
+use Rattle.std.proofs.Common.{◌≡◌, ℕ, zero, suc, ◌+◌, ◌≤◌, Bool, true, false, not, All, List, [], ◌∷◌, ◌++◌, length, refl, sym, ap, ◌∙◌, arith, append_assoc, decimal, if◌then◌else◌}
+use Rattle.std.specs.Prelude.{Option, Some, Ok, option_map, option_and_then}
 use Rattle.std.proofs.lemmas.Bool.{false≢true}
 use Rattle.std.proofs.lemmas.Bool.Decides.{nat_tests}
 use Rattle.std.proofs.lemmas.List.Folds.{list_all-append}
@@ -15,20 +15,8 @@ use Rattle.box_cert.specs.Numbers.{number_of}
 use Rattle.box_cert.specs.LineTexts.{as_line, line_text, lines_text, numbers_text, recipes_text}
 use Rattle.box_cert.specs.Reading.{◌>>=◌, lines_of, next_of, parts_of, cursor_of, recipes_at, line_result, trees_at}
 use Rattle.box_cert.proofs.Prefixes.{onto, shape_on, trees_next}
-use Rattle.box_cert.proofs.Numerals.{decimal_free, has_no, number_again}
+use Rattle.box_cert.proofs.Numerals.{both, decimal_free, first_holds, has_no, number_again, rest_holds}
 use Rattle.box_cert.proofs.TextLines.{lines_cut, split_at}
-
-both : (a b : Bool) → a ≡ true → b ≡ true → (a && b) ≡ true
-both a b p q = rw (p, q) refl
-
-first_holds : (a b : Bool) → (a && b) ≡ true → a ≡ true
-first_holds true b e = refl
-first_holds false b e = e
-
-rest_holds : (a b : Bool) → (a && b) ≡ true → b ≡ true
-rest_holds true b e = e
-rest_holds false true e = refl
-rest_holds false false e = e
 
 not_false : (q : Bool) → not q ≡ true → q ≡ false
 not_false true h = absurd (false≢true h)
@@ -44,13 +32,6 @@ cut_again mark (b ∷ bs) r h =
     let n = not_false (is_mark mark b) (first_holds (not (is_mark mark b)) (has_no mark bs) h) in
     let e = cut_again mark bs r (rest_holds (not (is_mark mark b)) (has_no mark bs) h) in
     ap (λ q. if q then Some ([], bs ++ (mark ∷ r)) else option_map (λ s. (b ∷ s.0, s.1)) (cut_at mark (bs ++ (mark ∷ r)))) n ∙ ap (option_map (λ s. (b ∷ s.0, s.1))) e
-
-cut_none : (mark : ℕ) (w : List ℕ) → has_no mark w ≡ true → cut_at mark w ≡ None
-cut_none mark [] h = refl
-cut_none mark (b ∷ bs) h =
-    let n = not_false (is_mark mark b) (first_holds (not (is_mark mark b)) (has_no mark bs) h) in
-    let e = cut_none mark bs (rest_holds (not (is_mark mark b)) (has_no mark bs) h) in
-    ap (λ q. if q then Some ([], bs) else option_map (λ s. (b ∷ s.0, s.1)) (cut_at mark bs)) n ∙ ap (option_map (λ s. (b ∷ s.0, s.1))) e
 
 pub appended : (mark : ℕ) (a b : List ℕ) → has_no mark a ≡ true → has_no mark b ≡ true → has_no mark (a ++ b) ≡ true
 appended mark a b p q = list_all-append (λ x. not (is_mark mark x)) a b ∙ both (has_no mark a) (has_no mark b) p q

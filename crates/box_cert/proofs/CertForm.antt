@@ -15,10 +15,10 @@ use Rattle.box_cert.specs.Numbers.{number_of}
 use Rattle.box_cert.specs.Spelling.{Content, cert_form, cert_text, made, undecided}
 use Rattle.box_cert.specs.Text.{IsCertFor, cert_of}
 use Rattle.box_cert.proofs.Again.{numbers_free, recipe_again}
-use Rattle.box_cert.proofs.Cuts.{cut_takes}
+use Rattle.box_cert.proofs.Cuts.{cut_takes, some_same}
 use Rattle.box_cert.proofs.Forms.{IsForm, IsHead, form_again, form_takes}
 use Rattle.box_cert.proofs.Numerals.{decimal_free, has_no, number_again, number_takes}
-use Rattle.box_cert.proofs.Takes.{map_some, recipe_takes, same_bytes, some_same}
+use Rattle.box_cert.proofs.Takes.{map_some, recipe_takes, same_bytes}
 
 -- the spelling of a claim is read as that claim
 claim_again : (dims : ℕ) (claim : Claim) → 1 ≤ dims → HasDims dims claim → ClaimFits claim → claim_of dims (claim_text claim) ≡ Some claim

@@ -1,8 +1,7 @@
 -- A text that is read is the spelling of what is read.
-use Rattle.std.proofs.Common.{◌≡◌, ◌==◌, ℕ, zero, suc, ◌+◌, ◌<◌, Bool, true, false, List, [], ◌∷◌, ◌++◌, length, flat_map, refl, sym, ap, ◌∙◌, subst, arith, append_assoc, decimal, if◌then◌else◌, ◌⊎◌, inl, inr}
+use Rattle.std.proofs.Common.{◌≡◌, ◌==◌, ℕ, zero, suc, ◌+◌, ◌<◌, Bool, true, false, List, [], ◌∷◌, ◌++◌, length, flat_map, refl, sym, ap, ◌∙◌, subst, arith, append_assoc, decimal, if◌then◌else◌}
 use Rattle.std.specs.Prelude.{Option, Some, None, Result, Ok, Err, option_map, option_and_then}
 use Rattle.std.specs.Str.{bytes_eq}
-use Rattle.std.proofs.lemmas.Bool.Decides.{nat_tests}
 use Rattle.std.proofs.lemmas.Slice.Eq.{bytes_eq-Decides}
 use Rattle.std.proofs.lemmas.Option.{none-some}
 use Rattle.box_specs.specs.declared.certificate.CertFault.{CertFault}
@@ -15,20 +14,12 @@ use Rattle.box_cert.specs.Numbers.{number_of}
 use Rattle.box_cert.specs.LineTexts.{as_line, line_text, lines_text, numbers_text, recipes_text}
 use Rattle.box_cert.specs.Reading.{◌>>=◌, Cursor, byte_first, line_result, line_then, lines_of, next_of, nothing_left, parts_of, recipes_at, trees_from}
 use Rattle.box_specs.specs.Validity.{are_trees}
-use Rattle.box_cert.proofs.Cuts.{cut_takes}
+use Rattle.box_cert.proofs.Cuts.{cut_takes, is_it, some_same}
 use Rattle.box_cert.proofs.Prefixes.{shape_on}
 use Rattle.box_cert.proofs.Numerals.{number_takes}
 
 err_ok : {A : Type 0} (e : CertFault) (x : A) → Err e ≡ Ok x → ⊥
 err_ok e x h = cc
-
-some_or : {A : Type 0} → A → Option A → A
-some_or d None = d
-some_or d (Some x) = x
-
-pub some_same : {A : Type 0} (x y : A) → Some x ≡ Some y → x ≡ y
-unfolding some_or
-some_same x y h = ap (some_or x) h
 
 ok_or : {A : Type 0} → A → Result A CertFault → A
 ok_or d (Err e) = d
@@ -53,10 +44,6 @@ map_some f (Some x) y h = (x, refl, some_same (f x) y h)
 then_some : {A B : Type 0} (f : A → Option B) (o : Option A) (y : B) → option_and_then f o ≡ Some y → (x : A) × (o ≡ Some x) × (f x ≡ Some y)
 then_some f None y h = absurd (none-some y h)
 then_some f (Some x) y h = (x, refl, h)
-
-chosen : {A : Type 0} (b : Bool) (x y z : Option A) → (if b then x else y) ≡ z → ((b ≡ true) × (x ≡ z)) ⊎ (y ≡ z)
-chosen true x y z h = inl (refl, h)
-chosen false x y z h = inr h
 
 -- where numbers are read, the first was read, and so were the others
 first_read : (o : Option ℕ) (more : Option (List ℕ)) (ns : List ℕ) → number_before o more ≡ Some ns → (n : ℕ) × (ms : List ℕ) × (o ≡ Some n) × (more ≡ Some ms) × (ns ≡ n ∷ ms)
@@ -92,9 +79,6 @@ numbers_takes (suc k) text ns h =
 pub recipe_takes : (dims : ℕ) (text ns : List ℕ) → recipe_of dims text ≡ Some ns → text ≡ numbers_text ns
 recipe_takes zero text ns h = absurd (none-some ns h)
 recipe_takes (suc k) text ns h = (numbers_takes k text ns h).is
-
-is_it : (b mark : ℕ) → (b == mark) ≡ true → b ≡ mark
-is_it b mark h = grind (arith, nat_tests)
 
 -- a text that is read as a line of a tree is its spelling
 pub line_takes : (text : List ℕ) (line : CertLine) → line_of text ≡ Some line → text ≡ line_text line

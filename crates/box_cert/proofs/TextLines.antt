@@ -3,13 +3,11 @@ use Rattle.std.proofs.Common.{◌≡◌, ◌==◌, ℕ, Bool, true, false, List,
 use Rattle.std.specs.Prelude.{Option, Some, None, option_map}
 use Rattle.box_cert.specs.Lines.{cut_at}
 use Rattle.box_cert.specs.Reading.{byte_first, lines_of}
+use Rattle.box_cert.proofs.Cuts.{onto}
 
 abbrev pub split_at : List ℕ → Option (List ℕ × List ℕ) → List (List ℕ) × List ℕ
 split_at text None = ([], text)
 split_at text (Some r) = (r.0 ∷ (lines_of r.1).0, (lines_of r.1).1)
-
-abbrev onto : ℕ → List ℕ × List ℕ → List ℕ × List ℕ
-onto b r = (b ∷ r.0, r.1)
 
 later : (b : ℕ) (bs : List ℕ) (o : Option (List ℕ × List ℕ)) → byte_first b (split_at bs o) ≡ split_at (b ∷ bs) (option_map (onto b) o)
 later b bs None = refl

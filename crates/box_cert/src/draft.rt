@@ -5,7 +5,7 @@ ghost use Rattle.std.specs.Str.{bytes_eq};
 ghost use Rattle.box_core.specs.Ranges.{ClaimFits};
 ghost use Rattle.box_cert.specs.declared.draft.Part.{Part};
 ghost use Rattle.box_cert.specs.Drafts.{IsDraft, Takes, is_whole, part_before, still};
-ghost use Rattle.box_cert.specs.Spelling.{content, undecided};
+ghost use Rattle.box_cert.specs.Spelling.{content};
 ghost use Rattle.box_cert.specs.Claims.{HasDims, claim_of};
 ghost use Rattle.box_cert.specs.Form.{count_of};
 ghost use Rattle.box_cert.specs.Reading.{Gives, parts_of};
@@ -83,24 +83,17 @@ fn read_claim(line: &[u8], dims: usize) -> Option<Claim>
     }
 }
 
-/// The number of listed recipes that a line states.
-fn read_count(line: &[u8]) -> Option<u32>
-    ensures is { result ≡ count_of undecided line.now }
-    ensures few { IfSome result (λ n. n ≤ 1000000) }
+/// The number of recipes that a line states after the word before their list.
+fn read_count(line: &[u8], word: &[u8], most: u32) -> Option<u32>
+    ensures is { result ≡ count_of (record { word = word.now; least = 0; most = most }) line.now }
+    ensures few { IfSome result (λ n. n ≤ most) }
 {
-    match cut_at(b' ', line) {
-        Some((word, tail)) => {
-            if word == b"undecided".as_slice() {
-                match number(tail, 0, 1_000_000) {
-                    Some(count) => Some(count as u32),
-                    None => None,
-                }
-            } else {
-                None
-            }
-        }
-        None => None,
+    let (first, tail) = cut_at(b' ', line)?;
+    if first != word {
+        return None;
     }
+    let count = number(tail, 0, u64::from(most))? as u32;
+    Some(count)
 }
 
 /// How many subtrees follow a line.
@@ -189,7 +182,7 @@ impl Draft {
         requires part { self.old.part ≡ Part.Count }
         ensures { Takes self.old line.now result self.new }
     {
-        let Some(count) = read_count(line) else {
+        let Some(count) = read_count(line, b"undecided", 1_000_000) else {
             return Err(fault(self.number, CertRule::BadClaim));
         };
         self.part = part_before(count);
