@@ -1,39 +1,22 @@
--- The spelling of a certificate is read as that certificate.
-use Rattle.std.proofs.Common.{◌≡◌, ◌&&◌, ℕ, zero, suc, ◌+◌, ◌≤◌, ◌^◌, Bool, true, false, not, All, List, [], ◌∷◌, ◌++◌, length, refl, sym, ap, ◌∙◌, arith, append_assoc, decimal, if◌then◌else◌}
-use Rattle.std.specs.Prelude.{Option, Some, None, Ok, option_map, option_and_then, codes}
+-- The spellings of lines, of listed recipes and of trees are read as these.
+use Rattle.std.proofs.Common.{◌≡◌, ℕ, zero, suc, ◌+◌, ◌≤◌, Bool, true, false, not, All, List, [], ◌∷◌, ◌++◌, length, refl, sym, ap, ◌∙◌, arith, append_assoc, decimal, if◌then◌else◌}
+use Rattle.std.specs.Prelude.{Option, Some, Ok, option_map, option_and_then}
 use Rattle.std.proofs.lemmas.Bool.{false≢true}
 use Rattle.std.proofs.lemmas.Bool.Decides.{nat_tests}
-use Rattle.std.proofs.lemmas.List.{append-nil}
 use Rattle.std.proofs.lemmas.List.Folds.{list_all-append}
-use Rattle.box_core.specs.Ranges.{ClaimFits, LineFits, StepsFit}
+use Rattle.box_core.specs.Ranges.{LineFits, StepsFit}
 use Rattle.box_specs.specs.Validity.{are_trees}
 use Rattle.box_specs.specs.declared.certificate.CertLine.{CertLine}
 use Rattle.box_specs.specs.declared.certificate.CertLine.TheVariants.{Dear, Fail, Limit, Pass, Split, Undecided}
 use Rattle.box_specs.specs.declared.certificate.CertRule.{CertRule}
-use Rattle.box_specs.specs.declared.certificate.CertRule.TheVariants.{BadClaim, BadHeader, BadLine}
-use Rattle.box_specs.specs.declared.certificate.Claim.{Claim}
-use Rattle.box_specs.specs.declared.certificate.Claim.TheVariants.{Floor, Match, NoMatch}
+use Rattle.box_specs.specs.declared.certificate.CertRule.TheVariants.{BadLine}
 use Rattle.box_cert.specs.Lines.{cut_at, is_mark, line_of, number_before, numbers_at, recipe_of}
 use Rattle.box_cert.specs.Numbers.{number_of}
-use Rattle.box_cert.specs.Spelling.{Content, as_line, cert_text, claim_text, count_text, head_text, line_text, lines_text, numbers_text, recipes_text}
-use Rattle.box_cert.specs.Text.{◌>>=◌, IsCertFor, HasDims, cert_of, claim_of, count_of, header_of, lines_of, next_of, parts_of, cursor_of, recipes_at, line_result, trees_at}
+use Rattle.box_cert.specs.LineTexts.{as_line, line_text, lines_text, numbers_text, recipes_text}
+use Rattle.box_cert.specs.Reading.{◌>>=◌, lines_of, next_of, parts_of, cursor_of, recipes_at, line_result, trees_at}
 use Rattle.box_cert.proofs.Prefixes.{onto, shape_on, trees_next}
-use Rattle.box_cert.proofs.Numerals.{decimal_free, has_no, number_again}
-use Rattle.box_cert.proofs.Parts.{cert_parts}
-use Rattle.box_cert.proofs.Takes.{regrouped}
+use Rattle.box_cert.proofs.Numerals.{both, decimal_free, first_holds, has_no, number_again, rest_holds}
 use Rattle.box_cert.proofs.TextLines.{lines_cut, split_at}
-
-both : (a b : Bool) → a ≡ true → b ≡ true → (a && b) ≡ true
-both a b p q = rw (p, q) refl
-
-first_holds : (a b : Bool) → (a && b) ≡ true → a ≡ true
-first_holds true b e = refl
-first_holds false b e = e
-
-rest_holds : (a b : Bool) → (a && b) ≡ true → b ≡ true
-rest_holds true b e = e
-rest_holds false true e = refl
-rest_holds false false e = e
 
 not_false : (q : Bool) → not q ≡ true → q ≡ false
 not_false true h = absurd (false≢true h)
@@ -50,14 +33,7 @@ cut_again mark (b ∷ bs) r h =
     let e = cut_again mark bs r (rest_holds (not (is_mark mark b)) (has_no mark bs) h) in
     ap (λ q. if q then Some ([], bs ++ (mark ∷ r)) else option_map (λ s. (b ∷ s.0, s.1)) (cut_at mark (bs ++ (mark ∷ r)))) n ∙ ap (option_map (λ s. (b ∷ s.0, s.1))) e
 
-cut_none : (mark : ℕ) (w : List ℕ) → has_no mark w ≡ true → cut_at mark w ≡ None
-cut_none mark [] h = refl
-cut_none mark (b ∷ bs) h =
-    let n = not_false (is_mark mark b) (first_holds (not (is_mark mark b)) (has_no mark bs) h) in
-    let e = cut_none mark bs (rest_holds (not (is_mark mark b)) (has_no mark bs) h) in
-    ap (λ q. if q then Some ([], bs) else option_map (λ s. (b ∷ s.0, s.1)) (cut_at mark bs)) n ∙ ap (option_map (λ s. (b ∷ s.0, s.1))) e
-
-appended : (mark : ℕ) (a b : List ℕ) → has_no mark a ≡ true → has_no mark b ≡ true → has_no mark (a ++ b) ≡ true
+pub appended : (mark : ℕ) (a b : List ℕ) → has_no mark a ≡ true → has_no mark b ≡ true → has_no mark (a ++ b) ≡ true
 appended mark a b p q = list_all-append (λ x. not (is_mark mark x)) a b ∙ both (has_no mark a) (has_no mark b) p q
 
 -- a number of steps is read back from its digits
@@ -116,35 +92,18 @@ line_free Dear h = refl
 line_free Undecided h = refl
 line_free Pass h = refl
 
--- the claim, and the number of listed recipes
-claim_again : (dims : ℕ) (claim : Claim) → 1 ≤ dims → HasDims dims claim → ClaimFits claim → claim_of dims (claim_text claim) ≡ Some claim
-claim_again dims (Match recipe) some e h = ap (option_map (λ ns. Match (record { items = ns }))) (recipe_again dims recipe.items some e h)
-claim_again dims NoMatch some e h = refl
-claim_again dims (Floor cost) some e h = ap (option_map (λ n. Floor n)) (number_again 0 (10 ^ 15) cost (omega arith) h (omega (arith, h)))
-
-claim_free : (claim : Claim) → ClaimFits claim → has_no 10 (claim_text claim) ≡ true
-claim_free (Match recipe) h = numbers_free recipe.items h
-claim_free NoMatch h = refl
-claim_free (Floor cost) h = decimal_free 10 cost (omega arith) (omega (arith, h))
-
-count_again : (count : ℕ) → count ≤ 1000000 → count_of (count_text count) ≡ Some count
-count_again count h = number_again 0 1000000 count (omega arith) h (omega (arith, h))
-
-count_free : (count : ℕ) → count ≤ 1000000 → has_no 10 (count_text count) ≡ true
-count_free count h = decimal_free 10 count (omega arith) (omega (arith, h))
-
 -- a line with its line feed is the first of the lines of a text that begins with it
 lines_again : (line text : List ℕ) → has_no 10 line ≡ true → lines_of (as_line line ++ text) ≡ (line ∷ (lines_of text).0, (lines_of text).1)
 lines_again line text h =
     ap lines_of (append_assoc line (10 ∷ []) text) ∙ lines_cut (line ++ (10 ∷ text)) ∙ ap (split_at (line ++ (10 ∷ text))) (cut_again 10 line text h)
 
-next_again : {A : Type 0} (rule : CertRule) (kind : List ℕ → Option A) (n : ℕ) (line text : List ℕ) (x : A) → has_no 10 line ≡ true → kind line ≡ Some x
+pub next_again : {A : Type 0} (rule : CertRule) (kind : List ℕ → Option A) (n : ℕ) (line text : List ℕ) (x : A) → has_no 10 line ≡ true → kind line ≡ Some x
     → next_of rule kind (cursor_of n (as_line line ++ text)) ≡ Ok (x, cursor_of (n + 1) text)
 next_again rule kind n line text x h e =
     ap (λ r. next_of rule kind (record { number = n; lines = r.0; left = r.1 })) (lines_again line text h)
     ∙ ap (λ o. line_result n rule o (cursor_of (n + 1) text)) e
 
-recipes_again : (dims n : ℕ) (xs : List (List ℕ)) (text : List ℕ) → 1 ≤ dims → All (λ s. length s ≡ dims) xs → All StepsFit xs
+pub recipes_again : (dims n : ℕ) (xs : List (List ℕ)) (text : List ℕ) → 1 ≤ dims → All (λ s. length s ≡ dims) xs → All StepsFit xs
     → recipes_at dims (length xs) (cursor_of n (recipes_text xs ++ text)) ≡ Ok (xs, cursor_of (n + length xs) text)
 recipes_again dims n [] text some len fits = let e : n ≡ n + 0 = omega arith in ap (λ k. Ok ([], cursor_of k text)) e
 recipes_again dims n (x ∷ xs) text some len fits =
@@ -157,7 +116,7 @@ recipes_again dims n (x ∷ xs) text some len fits =
     ∙ ap (onto x) (recipes_again dims (n + 1) xs text some (λ k d h. len (suc k) d (omega arith)) (λ k d h. fits (suc k) d (omega arith)))
     ∙ ap (λ k. Ok (x ∷ xs, cursor_of k text)) e
 
-trees_again : (k n : ℕ) (ls : List CertLine) (text : List ℕ) → are_trees k ls ≡ true → All LineFits ls
+pub trees_again : (k n : ℕ) (ls : List CertLine) (text : List ℕ) → are_trees k ls ≡ true → All LineFits ls
     → trees_at k (cursor_of n (lines_text ls ++ text)) ≡ Ok (ls, cursor_of (n + length ls) text)
 trees_again zero n [] text h fits = let e : n ≡ n + 0 = omega arith in ap (λ k. Ok ([], cursor_of k text)) e
 trees_again (suc k) n [] text h fits = absurd (false≢true h)
@@ -171,24 +130,3 @@ trees_again (suc k) n (l ∷ ls) text h fits =
     ∙ ap (λ r. r >>= λ r. onto r.0 (trees_at (parts_of r.0 + k) r.1)) (next_again BadLine line_of n (line_text l) (lines_text ls ++ text) l (line_free l f) (line_again l f))
     ∙ ap (onto l) (trees_again (parts_of l + k) (n + 1) ls text (sym (shape_on k l ls) ∙ h) (λ i d j. fits (suc i) d (omega arith)))
     ∙ ap (λ k. Ok (l ∷ ls, cursor_of k text)) e
-
--- the spelling of a certificate is read as that certificate
-pub cert_again : (dims : ℕ) (c : Content) → 1 ≤ dims → IsCertFor dims c → cert_of dims (cert_text c) ≡ Ok c
-unfolding cert_text head_text
-cert_again dims c some h =
-    let count = length c.listed in
-    let A = as_line (codes "dye-cert 1") in
-    let B = as_line (claim_text c.claim) in
-    let C = as_line (count_text count) in
-    let R = recipes_text c.listed in
-    let L = lines_text c.lines in
-    let T = A ++ (B ++ (C ++ (R ++ (L ++ [])))) in
-    let same : cert_text c ≡ T = sym (regrouped A B C R L) ∙ ap (λ t. A ++ (B ++ (C ++ (R ++ t)))) (sym (append-nil L)) in
-    ap (cert_of dims) same
-    ∙ cert_parts dims T c.claim count c.listed c.lines (cursor_of 2 (B ++ (C ++ (R ++ (L ++ []))))) (cursor_of 3 (C ++ (R ++ (L ++ [])))) (cursor_of 4 (R ++ (L ++ [])))
-    (cursor_of (4 + count) (L ++ [])) (cursor_of (4 + count + length c.lines) [])
-    (next_again BadHeader header_of 1 (codes "dye-cert 1") (B ++ (C ++ (R ++ (L ++ [])))) tt refl refl)
-    (next_again BadClaim (claim_of dims) 2 (claim_text c.claim) (C ++ (R ++ (L ++ []))) c.claim (claim_free c.claim h.numbers) (claim_again dims c.claim some h.claim h.numbers))
-    (next_again BadClaim count_of 3 (count_text count) (R ++ (L ++ [])) count (count_free count h.few) (count_again count h.few))
-    (recipes_again dims 4 c.listed (L ++ []) some h.listed.each h.listed.fits)
-    (trees_again 1 (4 + count) c.lines [] h.tree.whole h.tree.fits)

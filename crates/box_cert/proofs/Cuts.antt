@@ -9,7 +9,7 @@ use Rattle.box_cert.specs.Lines.{cut_at, is_mark}
 abbrev pub parts : List ℕ → ℕ → List ℕ × List ℕ
 parts text at = (take at text, drop (at + 1) text)
 
-abbrev onto : ℕ → List ℕ × List ℕ → List ℕ × List ℕ
+abbrev pub onto : ℕ → List ℕ × List ℕ → List ℕ × List ℕ
 onto b r = (b ∷ r.0, r.1)
 
 lt_suc : (n : ℕ) → nat_lt 0 (suc n) ≡ true
@@ -39,10 +39,10 @@ cut_is mark (b ∷ bs) = go (is_mark mark b) (cut_is mark bs) where
   go true h = ap (λ q. option_map (parts (b ∷ bs)) (cond q (Some 0) None)) (sym (lt_suc (length bs)))
   go false h = ap (option_map (onto b)) h ∙ later (nat_lt p (length bs)) ∙ ap (λ q. option_map (parts (b ∷ bs)) (cond q (Some (1 + p)) None)) (sym (lt_same p (length bs)))
 
-some_same : (x y : List ℕ × List ℕ) → Some x ≡ Some y → x ≡ y
+pub some_same : {A : Type 0} (x y : A) → Some x ≡ Some y → x ≡ y
 some_same x y h = ap (λ o. unwrap_or o x) h
 
-is_it : (b mark : ℕ) → is_mark mark b ≡ true → b ≡ mark
+pub is_it : (b mark : ℕ) → is_mark mark b ≡ true → b ≡ mark
 is_it b mark h = grind (arith, nat_tests)
 
 -- both parts make the text again, with the mark between

@@ -7,9 +7,12 @@ mod Wholes
 mod TextLines
 mod Prefixes
 mod Steps
+mod Drafting
 mod Parts
 mod Numerals
 mod Takes
-pub mod Again
+mod Again
+mod Forms
+pub mod CertForm
 mod OneLine
 mod WholeText

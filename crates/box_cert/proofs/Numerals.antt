@@ -11,6 +11,9 @@ use Rattle.std.proofs.lemmas.Option.{none-some}
 use Rattle.box_cert.specs.Lines.{is_mark}
 use Rattle.box_cert.specs.Numbers.{in_range, is_numeral, is_plain, number_of}
 
+pub both : (a b : Bool) → a ≡ true → b ≡ true → (a && b) ≡ true
+both a b p q = rw (p, q) refl
+
 own : IsNumeralModel (λ ds. list_all is_digit ds ≡ true) (digits_from 0)
 own = numerals_by_fold _ (search rules) digits_from (search rules)
 
@@ -27,9 +30,7 @@ is_one zero h e = ap length (decimal_digit 0 (omega arith))
 is_one (suc n) h e = let l = first_decimal (suc n) (omega arith) h in absurd (omega (arith, l, e))
 
 numeral : (n : ℕ) → n < 2 ^ 64 → is_numeral (decimal n) ≡ true
-numeral n h = both (is_plain (decimal n)) _ (plain (decimal n) (decimal_nonempty n h) (is_one n h)) (digits_decimal own n h) where
-  both : (a b : Bool) → a ≡ true → b ≡ true → (a && b) ≡ true
-  both a b p q = rw (p, q) refl
+numeral n h = both (is_plain (decimal n)) _ (plain (decimal n) (decimal_nonempty n h) (is_one n h)) (digits_decimal own n h)
 
 -- the digits of a number are read as that number
 pub number_again : (least most n : ℕ) → least ≤ n → n ≤ most → n < 2 ^ 64 → number_of least most (decimal n) ≡ Some n
@@ -42,11 +43,11 @@ number_again least most n low high h =
     within : (a b : Bool) → a ≡ true → b ≡ true → (if a && b then Some n else None) ≡ Some n
     within a b p q = rw (p, q) refl
 
-first_holds : (a b : Bool) → (a && b) ≡ true → a ≡ true
+pub first_holds : (a b : Bool) → (a && b) ≡ true → a ≡ true
 first_holds true b e = refl
 first_holds false b e = e
 
-rest_holds : (a b : Bool) → (a && b) ≡ true → b ≡ true
+pub rest_holds : (a b : Bool) → (a && b) ≡ true → b ≡ true
 rest_holds true b e = e
 rest_holds false true e = refl
 rest_holds false false e = e

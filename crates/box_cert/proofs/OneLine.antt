@@ -7,7 +7,7 @@ use Rattle.box_core.specs.Ranges.{LineFits, StepsFit}
 use Rattle.std.proofs.lemmas.Option.{none-some}
 use Rattle.box_specs.specs.declared.certificate.CertLine.{CertLine}
 use Rattle.box_cert.specs.Lines.{line_of, recipe_of}
-use Rattle.box_cert.specs.Spelling.{line_text, numbers_text}
+use Rattle.box_cert.specs.LineTexts.{line_text, numbers_text}
 use Rattle.box_cert.proofs.Again.{line_again, recipe_again}
 use Rattle.box_cert.proofs.Takes.{line_takes, recipe_takes}
 

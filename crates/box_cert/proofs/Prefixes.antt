@@ -9,10 +9,7 @@ use Rattle.box_specs.specs.declared.certificate.CertRule.TheVariants.{BadLine}
 use Rattle.box_cert.specs.declared.fault.CertError.{CertError}
 use Rattle.box_cert.specs.declared.fault.CertError.TheVariants as errors
 use Rattle.box_cert.specs.Lines.{line_of}
-use Rattle.box_cert.specs.Text.{◌>>=◌, Cursor, FailsAs, line_result, line_then, next_of, parts_of, trees_at, trees_from}
-
-abbrev pub with_prefix : {A : Type 0} → List A → Result (List A × Cursor) CertFault → Result (List A × Cursor) CertFault
-with_prefix prefix read = read >>= λ r. Ok (prefix ++ r.0, r.1)
+use Rattle.box_cert.specs.Reading.{◌>>=◌, Cursor, FailsAs, line_result, line_then, next_of, parts_of, trees_at, trees_from, with_prefix}
 
 abbrev pub onto : {A : Type 0} → A → Result (List A × Cursor) CertFault → Result (List A × Cursor) CertFault
 onto x read = read >>= λ r. Ok (x ∷ r.0, r.1)

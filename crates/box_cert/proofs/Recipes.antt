@@ -4,7 +4,7 @@ use Rattle.std.specs.Prelude.{Option, Some, None, option_map, option_and_then}
 use Rattle.std.proofs.lemmas.List.{take_more, append-nil}
 use Rattle.box_cert.specs.Lines.{cut_at, number_before, numbers_at, recipe_of}
 use Rattle.box_cert.specs.Numbers.{number_of}
-use Rattle.box_cert.specs.Spelling.{numbers_text}
+use Rattle.box_cert.specs.LineTexts.{numbers_text}
 
 -- one more number after others, or the first one
 numbers_first : (n : ℕ) → numbers_text ([] ++ n ∷ []) ≡ decimal n

@@ -1,15 +1,14 @@
--- One more line of a list of recipes, and one more line of a tree.
-use Rattle.std.proofs.Common.{◌≡◌, ℕ, zero, suc, ◌+◌, ◌-◌, ◌<◌, ◌≤◌, List, [], ◌∷◌, ◌++◌, sym, ap, ◌∙◌, arith, append_assoc}
+-- One more line of a tree.
+use Rattle.std.proofs.Common.{◌≡◌, ℕ, suc, ◌+◌, ◌-◌, ◌<◌, List, [], ◌∷◌, ◌++◌, sym, ap, ◌∙◌, arith, append_assoc}
 use Rattle.std.specs.Prelude.{Result, Ok}
-use Rattle.std.proofs.lemmas.List.{append-nil}
 use Rattle.box_specs.specs.Validity.{are_trees}
 use Rattle.box_specs.specs.declared.certificate.CertFault.{CertFault}
 use Rattle.box_specs.specs.declared.certificate.CertLine.{CertLine}
 use Rattle.box_specs.specs.declared.certificate.CertRule.TheVariants.{BadLine}
 use Rattle.box_cert.specs.declared.fault.CertError.{CertError}
-use Rattle.box_cert.specs.Lines.{line_of, recipe_of}
-use Rattle.box_cert.specs.Text.{◌>>=◌, Cursor, FailsAs, next_of, parts_of, recipes_at, trees_at}
-use Rattle.box_cert.proofs.Prefixes.{fails_as, fails_then, onto, prefix_more, shape_on, trees_next, with_prefix}
+use Rattle.box_cert.specs.Lines.{line_of}
+use Rattle.box_cert.specs.Reading.{◌>>=◌, Cursor, FailsAs, next_of, parts_of, trees_at, with_prefix}
+use Rattle.box_cert.proofs.Prefixes.{fails_as, fails_then, onto, prefix_more, shape_on, trees_next}
 
 module _ (w : ℕ) (xs : List CertLine) (p : Cursor) (all : Result (List CertLine × Cursor) CertFault) (some : 0 < w) (h : with_prefix xs (trees_at w p) ≡ all) where
   abbrev then_tree : CertLine × Cursor → Result (List CertLine × Cursor) CertFault
@@ -32,10 +31,6 @@ module _ (w : ℕ) (xs : List CertLine) (p : Cursor) (all : Result (List CertLin
       fails_as e _ all (sym (ap (with_prefix xs) opened) ∙ h)
       (fails_then e (next_of BadLine line_of p >>= then_tree) (λ r. Ok (xs ++ r.0, r.1)) (fails_then e (next_of BadLine line_of p) then_tree f))
 
-pub tree_ends : (w : ℕ) (xs : List CertLine) (p : Cursor) (all : Result (List CertLine × Cursor) CertFault) → w ≤ 0 → with_prefix xs (trees_at w p) ≡ all → all ≡ Ok (xs, p)
-tree_ends zero xs p all none h = sym h ∙ ap (λ ys. Ok (ys, p)) (append-nil xs)
-tree_ends (suc w) xs p all none h = absurd (omega arith)
-
 -- where w trees must follow the lines so far, after one more line its parts and w - 1 trees must
 pub shape_step : (w : ℕ) (xs : List CertLine) (x : CertLine) (parts : ℕ) → 0 < w → parts ≡ parts_of x
     → ((more : List CertLine) → are_trees 1 (xs ++ more) ≡ are_trees w more) → (more : List CertLine) → are_trees 1 ((xs ++ x ∷ []) ++ more) ≡ are_trees (parts + (w - 1)) more
@@ -43,28 +38,3 @@ shape_step w xs x parts some same shape more =
     let e : w ≡ suc (w - 1) = omega (arith, some) in
     ap (are_trees 1) (append_assoc xs (x ∷ []) more) ∙ shape (x ∷ more) ∙ ap (λ v. are_trees v (x ∷ more)) e ∙ shape_on (w - 1) x more
     ∙ ap (λ k. are_trees (k + (w - 1)) more) (sym same)
-
-module _ (dims count i : ℕ) (xs : List (List ℕ)) (p : Cursor) (all : Result (List (List ℕ) × Cursor) CertFault) (some : i < count) (h : with_prefix xs (recipes_at dims (count - i) p) ≡ all) where
-  abbrev then_recipes : List ℕ × Cursor → Result (List (List ℕ) × Cursor) CertFault
-  then_recipes r = onto r.0 (recipes_at dims (count - (i + 1)) r.1)
-
-  opened_list : recipes_at dims (count - i) p ≡ (next_of BadLine (recipe_of dims) p >>= then_recipes)
-  opened_list = let e : count - i ≡ suc (count - (i + 1)) = omega (arith, some) in ap (λ v. recipes_at dims v p) e
-
-  -- one more recipe was read
-  pub recipe_step : (x : List ℕ) (q : Cursor) → next_of BadLine (recipe_of dims) p ≡ Ok (x, q) → with_prefix (xs ++ x ∷ []) (recipes_at dims (count - (i + 1)) q) ≡ all
-  recipe_step x q read =
-      prefix_more xs x (recipes_at dims (count - (i + 1)) q)
-      ∙ ap (with_prefix xs) (sym (opened_list ∙ ap (λ r. r >>= then_recipes) read))
-      ∙ h
-
-  -- the line is missing or has a fault
-  pub recipe_fails : (e : CertError) → FailsAs e (next_of BadLine (recipe_of dims) p) → FailsAs e all
-  recipe_fails e f =
-      fails_as e _ all (sym (ap (with_prefix xs) opened_list) ∙ h)
-      (fails_then e (next_of BadLine (recipe_of dims) p >>= then_recipes) (λ r. Ok (xs ++ r.0, r.1)) (fails_then e (next_of BadLine (recipe_of dims) p) then_recipes f))
-
-pub recipes_end : (dims count i : ℕ) (xs : List (List ℕ)) (p : Cursor) (all : Result (List (List ℕ) × Cursor) CertFault) → count ≤ i → with_prefix xs (recipes_at dims (count - i) p) ≡ all → all ≡ Ok (xs, p)
-recipes_end dims count i xs p all l h =
-    let e : count - i ≡ 0 = omega arith in
-    sym h ∙ ap (λ k. with_prefix xs (recipes_at dims k p)) e ∙ ap (λ ys. Ok (ys, p)) (append-nil xs)

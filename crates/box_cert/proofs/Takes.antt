@@ -1,36 +1,25 @@
 -- A text that is read is the spelling of what is read.
-use Rattle.std.proofs.Common.{◌≡◌, ◌==◌, ℕ, zero, suc, ◌+◌, ◌<◌, ◌^◌, Bool, true, false, List, [], ◌∷◌, ◌++◌, length, flat_map, refl, sym, ap, ◌∙◌, subst, arith, append_assoc, decimal, if◌then◌else◌, ◌⊎◌, inl, inr}
-use Rattle.std.specs.Prelude.{Option, Some, None, Result, Ok, Err, option_map, option_and_then, codes}
+use Rattle.std.proofs.Common.{◌≡◌, ◌==◌, ℕ, zero, suc, ◌+◌, ◌<◌, Bool, true, false, List, [], ◌∷◌, ◌++◌, length, flat_map, refl, sym, ap, ◌∙◌, subst, arith, append_assoc, decimal, if◌then◌else◌}
+use Rattle.std.specs.Prelude.{Option, Some, None, Result, Ok, Err, option_map, option_and_then}
 use Rattle.std.specs.Str.{bytes_eq}
-use Rattle.std.proofs.lemmas.Bool.Decides.{nat_tests}
-use Rattle.std.proofs.lemmas.List.{append-nil}
 use Rattle.std.proofs.lemmas.Slice.Eq.{bytes_eq-Decides}
 use Rattle.std.proofs.lemmas.Option.{none-some}
 use Rattle.box_specs.specs.declared.certificate.CertFault.{CertFault}
 use Rattle.box_specs.specs.declared.certificate.CertLine.{CertLine}
 use Rattle.box_specs.specs.declared.certificate.CertLine.TheVariants.{Dear, Fail, Limit, Pass, Split, Undecided}
 use Rattle.box_specs.specs.declared.certificate.CertRule.{CertRule}
-use Rattle.box_specs.specs.declared.certificate.CertRule.TheVariants.{BadClaim, BadHeader, BadLine}
-use Rattle.box_specs.specs.declared.certificate.Claim.{Claim}
-use Rattle.box_specs.specs.declared.certificate.Claim.TheVariants.{Floor, Match, NoMatch}
+use Rattle.box_specs.specs.declared.certificate.CertRule.TheVariants.{BadLine}
 use Rattle.box_cert.specs.Lines.{cut_at, lettered_line, line_of, number_before, numbers_at, recipe_of, split_of}
 use Rattle.box_cert.specs.Numbers.{number_of}
-use Rattle.box_cert.specs.Spelling.{Content, as_line, cert_text, claim_text, count_text, head_text, line_text, lines_text, numbers_text, recipes_text}
-use Rattle.box_cert.specs.Text.{◌>>=◌, Cursor, byte_first, cert_of, claim_in, claim_of, count_in, count_of, cursor_of, header_of, line_result, line_then, lines_of, next_of, nothing_left, parts_of, recipes_at, trees_at, trees_from}
-use Rattle.box_cert.proofs.Cuts.{cut_takes}
+use Rattle.box_cert.specs.LineTexts.{as_line, line_text, lines_text, numbers_text, recipes_text}
+use Rattle.box_cert.specs.Reading.{◌>>=◌, Cursor, byte_first, line_result, line_then, lines_of, next_of, nothing_left, parts_of, recipes_at, trees_from}
+use Rattle.box_specs.specs.Validity.{are_trees}
+use Rattle.box_cert.proofs.Cuts.{cut_takes, is_it, some_same}
+use Rattle.box_cert.proofs.Prefixes.{shape_on}
 use Rattle.box_cert.proofs.Numerals.{number_takes}
-use Rattle.box_cert.proofs.Parts.{then_claim, then_count, then_end, then_list, then_tree}
 
 err_ok : {A : Type 0} (e : CertFault) (x : A) → Err e ≡ Ok x → ⊥
 err_ok e x h = cc
-
-some_or : {A : Type 0} → A → Option A → A
-some_or d None = d
-some_or d (Some x) = x
-
-some_same : {A : Type 0} (x y : A) → Some x ≡ Some y → x ≡ y
-unfolding some_or
-some_same x y h = ap (some_or x) h
 
 ok_or : {A : Type 0} → A → Result A CertFault → A
 ok_or d (Err e) = d
@@ -48,17 +37,13 @@ pub bind_ok : {A B : Type 0} (r : Result A CertFault) (f : A → Result B CertFa
 bind_ok (Ok x) f y h = (x, refl, h)
 bind_ok (Err e) f y h = absurd (err_ok e y h)
 
-map_some : {A B : Type 0} (f : A → B) (o : Option A) (y : B) → option_map f o ≡ Some y → (x : A) × (o ≡ Some x) × (f x ≡ y)
+pub map_some : {A B : Type 0} (f : A → B) (o : Option A) (y : B) → option_map f o ≡ Some y → (x : A) × (o ≡ Some x) × (f x ≡ y)
 map_some f None y h = absurd (none-some y h)
 map_some f (Some x) y h = (x, refl, some_same (f x) y h)
 
 then_some : {A B : Type 0} (f : A → Option B) (o : Option A) (y : B) → option_and_then f o ≡ Some y → (x : A) × (o ≡ Some x) × (f x ≡ Some y)
 then_some f None y h = absurd (none-some y h)
 then_some f (Some x) y h = (x, refl, h)
-
-chosen : {A : Type 0} (b : Bool) (x y z : Option A) → (if b then x else y) ≡ z → ((b ≡ true) × (x ≡ z)) ⊎ (y ≡ z)
-chosen true x y z h = inl (refl, h)
-chosen false x y z h = inr h
 
 -- where numbers are read, the first was read, and so were the others
 first_read : (o : Option ℕ) (more : Option (List ℕ)) (ns : List ℕ) → number_before o more ≡ Some ns → (n : ℕ) × (ms : List ℕ) × (o ≡ Some n) × (more ≡ Some ms) × (ns ≡ n ∷ ms)
@@ -94,9 +79,6 @@ numbers_takes (suc k) text ns h =
 pub recipe_takes : (dims : ℕ) (text ns : List ℕ) → recipe_of dims text ≡ Some ns → text ≡ numbers_text ns
 recipe_takes zero text ns h = absurd (none-some ns h)
 recipe_takes (suc k) text ns h = (numbers_takes k text ns h).is
-
-is_it : (b mark : ℕ) → (b == mark) ≡ true → b ≡ mark
-is_it b mark h = grind (arith, nat_tests)
 
 -- a text that is read as a line of a tree is its spelling
 pub line_takes : (text : List ℕ) (line : CertLine) → line_of text ≡ Some line → text ≡ line_text line
@@ -142,46 +124,8 @@ line_takes (letter ∷ (space ∷ text)) line h = second (space == 32) refl h wh
   second true p e = ap (λ x. letter ∷ (x ∷ text)) (is_it space 32 p) ∙ third (letter == 115) (letter == 120) (letter == 102) refl refl refl e
   second false p e = absurd (none-some line e)
 
-same_bytes : (a b : List ℕ) → bytes_eq a b ≡ true → a ≡ b
+pub same_bytes : (a b : List ℕ) → bytes_eq a b ≡ true → a ≡ b
 same_bytes a b h = (bytes_eq-Decides a b).0 h
-
--- the first three lines
-header_takes : (line : List ℕ) (x : Unit {0}) → header_of line ≡ Some x → line ≡ codes "dye-cert 1"
-header_takes line x h = go (bytes_eq line (codes "dye-cert 1")) refl h where
-  go : (b : Bool) → bytes_eq line (codes "dye-cert 1") ≡ b → (if b then Some tt else None) ≡ Some x → line ≡ codes "dye-cert 1"
-  go true p e = same_bytes line _ p
-  go false p e = absurd (none-some x e)
-
-claim_takes : (dims : ℕ) (line : List ℕ) (claim : Claim) → claim_of dims line ≡ Some claim → line ≡ claim_text claim
-claim_takes dims line claim h = go (cut_at 32 line) refl h where
-  none : (b : Bool) → bytes_eq line (codes "none") ≡ b → (if b then Some NoMatch else None) ≡ Some claim → line ≡ claim_text claim
-  none true p e = same_bytes line _ p ∙ ap claim_text (some_same NoMatch claim e)
-  none false p e = absurd (none-some claim e)
-
-  worded : (r : List ℕ × List ℕ) → line ≡ r.0 ++ (32 ∷ r.1) → (a b : Bool) → bytes_eq r.0 (codes "match") ≡ a → bytes_eq r.0 (codes "floor") ≡ b
-      → (if a then option_map (λ ns. Match (record { items = ns })) (recipe_of dims r.1) else (if b then option_map (λ cost. Floor cost) (number_of 0 (10 ^ 15) r.1) else None)) ≡ Some claim
-      → line ≡ claim_text claim
-  worded r l true b p q e =
-      let m = map_some (λ ns. Match (record { items = ns })) (recipe_of dims r.1) claim e in
-      l ∙ ap (λ w. w ++ (32 ∷ r.1)) (same_bytes r.0 (codes "match") p) ∙ ap (λ t. codes "match" ++ (32 ∷ t)) (recipe_takes dims r.1 m.0 m.1) ∙ ap claim_text m.2
-  worded r l false true p q e =
-      let m = map_some (λ cost. Floor cost) (number_of 0 (10 ^ 15) r.1) claim e in
-      l ∙ ap (λ w. w ++ (32 ∷ r.1)) (same_bytes r.0 (codes "floor") q) ∙ ap (λ t. codes "floor" ++ (32 ∷ t)) (number_takes 0 (10 ^ 15) r.1 m.0 (omega arith) m.1).is ∙ ap claim_text m.2
-  worded r l false false p q e = absurd (none-some claim e)
-
-  go : (o : Option (List ℕ × List ℕ)) → cut_at 32 line ≡ o → claim_in dims line o ≡ Some claim → line ≡ claim_text claim
-  go None p e = none (bytes_eq line (codes "none")) refl e
-  go (Some r) p e = worded r (cut_takes 32 line r p) (bytes_eq r.0 (codes "match")) (bytes_eq r.0 (codes "floor")) refl refl e
-
-count_takes : (line : List ℕ) (count : ℕ) → count_of line ≡ Some count → line ≡ count_text count
-count_takes line count h = go (cut_at 32 line) refl h where
-  worded : (r : List ℕ × List ℕ) → line ≡ r.0 ++ (32 ∷ r.1) → (a : Bool) → bytes_eq r.0 (codes "undecided") ≡ a → (if a then number_of 0 1000000 r.1 else None) ≡ Some count → line ≡ count_text count
-  worded r l true p e = l ∙ ap (λ w. w ++ (32 ∷ r.1)) (same_bytes r.0 (codes "undecided") p) ∙ ap (λ t. codes "undecided" ++ (32 ∷ t)) (number_takes 0 1000000 r.1 count (omega arith) e).is
-  worded r l false p e = absurd (none-some count e)
-
-  go : (o : Option (List ℕ × List ℕ)) → cut_at 32 line ≡ o → count_in o ≡ Some count → line ≡ count_text count
-  go None p e = absurd (none-some count e)
-  go (Some r) p e = worded r (cut_takes 32 line r p) (bytes_eq r.0 (codes "undecided")) refl e
 
 -- the text that is still to be read
 abbrev pub text_at : List (List ℕ) → List ℕ → List ℕ
@@ -267,46 +211,27 @@ trees_take (suc k) number (text ∷ lines) left y h = go (line_of text) refl (λ
       ∙ ap (λ l. as_line l ++ text_at lines left) (line_takes text line p) ∙ ap (λ m. as_line (line_text line) ++ m) (more line z b.1)
       ∙ sym (append_assoc (as_line (line_text line)) (lines_text z.0) (text_of z.1)))
 
+-- the lines of trees that are read are so many trees
+pub trees_whole : (k number : ℕ) (lines : List (List ℕ)) (left : List ℕ) (y : List CertLine × Cursor) → trees_from k number lines left ≡ Ok y → are_trees k y.0 ≡ true
+trees_whole zero number lines left y h =
+    let P : (List CertLine × Cursor) → Type 0 = λ z. are_trees 0 z.0 ≡ true in
+    subst P (ok_same _ y h) refl
+trees_whole (suc k) number [] left y h = absurd (err_ok _ y h)
+trees_whole (suc k) number (text ∷ lines) left y h = go (line_of text) (λ line z. trees_whole (parts_of line + k) (number + 1) lines left z) h where
+  go : (o : Option CertLine) → ((line : CertLine) (z : List CertLine × Cursor) → trees_from (parts_of line + k) (number + 1) lines left ≡ Ok z → are_trees (parts_of line + k) z.0 ≡ true)
+      → line_then number o (λ line. trees_from (parts_of line + k) (number + 1) lines left) ≡ Ok y → are_trees (suc k) y.0 ≡ true
+  go None more e = absurd (err_ok _ y e)
+  go (Some line) more e =
+      let b = bind_ok (trees_from (parts_of line + k) (number + 1) lines left) (λ r. Ok (line ∷ r.0, r.1)) y e in
+      let P : (List CertLine × Cursor) → Type 0 = λ z. are_trees (suc k) z.0 ≡ true in
+      subst P (ok_same _ y b.2) (shape_on k line b.0.0 ∙ more line b.0 b.1)
+
 -- the end of a text
 pub record IsEnd {A : Type 0} (c d : A) (lines : List (List ℕ)) (left : List ℕ) : Type 0 where
   pub same : c ≡ d
   pub none : text_at lines left ≡ []
 
-end_takes : {A : Type 0} (c d : A) (number : ℕ) (lines : List (List ℕ)) (left : List ℕ) → nothing_left c number lines left ≡ Ok d → IsEnd c d lines left
+pub end_takes : {A : Type 0} (c d : A) (number : ℕ) (lines : List (List ℕ)) (left : List ℕ) → nothing_left c number lines left ≡ Ok d → IsEnd c d lines left
 end_takes c d number [] [] h = record { same = ok_same c d h; none = refl }
 end_takes c d number [] (b ∷ bs) h = absurd (err_ok _ d h)
 end_takes c d number (line ∷ lines) left h = absurd (err_ok _ d h)
-
-pub regrouped : (a b c r l : List ℕ) → a ++ (b ++ (c ++ (r ++ l))) ≡ (((a ++ b) ++ c) ++ r) ++ l
-regrouped a b c r l =
-    sym (append_assoc a b (c ++ (r ++ l))) ∙ sym (append_assoc (a ++ b) c (r ++ l)) ∙ sym (append_assoc ((a ++ b) ++ c) r l)
-
--- a text that is read is the spelling of what is read
-pub cert_takes : (dims : ℕ) (text : List ℕ) (c : Content) → cert_of dims text ≡ Ok c → text ≡ cert_text c
-unfolding cert_of cert_text head_text
-cert_takes dims text c h =
-    let p1 = cursor_of 1 text in
-    let h1 = bind_ok (next_of BadHeader header_of p1) (then_claim dims) c h in
-    let t1 = next_takes BadHeader header_of p1 h1.0 h1.1 in
-    let h2 = bind_ok (next_of BadClaim (claim_of dims) h1.0.1) (then_count dims) c h1.2 in
-    let t2 = next_takes BadClaim (claim_of dims) h1.0.1 h2.0 h2.1 in
-    let h3 = bind_ok (next_of BadClaim count_of h2.0.1) (then_list dims h2.0.0) c h2.2 in
-    let t3 = next_takes BadClaim count_of h2.0.1 h3.0 h3.1 in
-    let h4 = bind_ok (recipes_at dims h3.0.0 h3.0.1) (then_tree dims h2.0.0) c h3.2 in
-    let t4 = recipes_takes dims h3.0.0 h3.0.1 h4.0 h4.1 in
-    let h5 = bind_ok (trees_at 1 h4.0.1) (then_end dims h2.0.0 h4.0.0) c h4.2 in
-    let p6 = h5.0.1 in
-    let t5 = trees_take 1 h4.0.1.number h4.0.1.lines h4.0.1.left h5.0 h5.1 in
-    let last = end_takes (record { claim = h2.0.0; listed = h4.0.0; lines = h5.0.0 }) c p6.number p6.lines p6.left h5.2 in
-    let A = as_line (codes "dye-cert 1") in
-    let B = as_line (claim_text h2.0.0) in
-    let C = as_line (count_text (length h4.0.0)) in
-    let R = recipes_text h4.0.0 in
-    let L = lines_text h5.0.0 in
-    let e5 : text_of h4.0.1 ≡ L = t5 ∙ ap (λ t. L ++ t) last.none ∙ append-nil L in
-    let e4 : text_of h3.0.1 ≡ R ++ L = t4.joined ∙ ap (λ t. R ++ t) e5 in
-    let e3 : text_of h2.0.1 ≡ C ++ (R ++ L) =
-    t3.joined ∙ ap (λ l. as_line l ++ text_of h3.0.1) (count_takes t3.line h3.0.0 t3.is ∙ ap count_text (sym t4.many)) ∙ ap (λ t. C ++ t) e4 in
-    let e2 : text_of h1.0.1 ≡ B ++ (C ++ (R ++ L)) = t2.joined ∙ ap (λ l. as_line l ++ text_of h2.0.1) (claim_takes dims t2.line h2.0.0 t2.is) ∙ ap (λ t. B ++ t) e3 in
-    let e1 : text_of p1 ≡ A ++ (B ++ (C ++ (R ++ L))) = t1.joined ∙ ap (λ l. as_line l ++ text_of h1.0.1) (header_takes t1.line h1.0.0 t1.is) ∙ ap (λ t. A ++ t) e2 in
-    sym (lines_joined text) ∙ e1 ∙ regrouped A B C R L ∙ ap cert_text last.same

@@ -5,9 +5,10 @@ use Rattle.box_core.specs.declared.cert.Cert.{Cert}
 use Rattle.box_specs.specs.declared.certificate.CertFault.{CertFault}
 use Rattle.box_cert.specs.declared.fault.CertError.{CertError}
 use Rattle.box_cert.specs.Spelling.{Content, cert_text, content}
-use Rattle.box_cert.specs.Text.{Gives, IsCertFor, cert_of}
-use Rattle.box_cert.proofs.Again.{cert_again}
-use Rattle.box_cert.proofs.Takes.{cert_takes}
+use Rattle.box_cert.specs.Reading.{Gives}
+use Rattle.box_cert.specs.Text.{IsCertFor, cert_of}
+use Rattle.box_cert.proofs.CertForm.{cert_again}
+use Rattle.box_cert.proofs.CertForm.{cert_takes}
 
 pub text_found : (dims : ℕ) (text : List ℕ) (r : Result Cert CertError) → Gives (λ cert. content cert) r (cert_of dims text) → IfOk r (λ cert. text ≡ cert_text (content cert))
 text_found dims text (Ok cert) h = cert_takes dims text (content cert) h

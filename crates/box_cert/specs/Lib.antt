@@ -1,5 +1,10 @@
+pub mod Claims
+pub mod Drafts
+pub mod Form
+pub mod LineTexts
 pub mod Lines
 pub mod Numbers
+pub mod Reading
 pub mod Spelling
 pub mod Text
 pub mod Writing

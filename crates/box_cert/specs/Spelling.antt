@@ -1,10 +1,11 @@
--- How a certificate is written. Each line ends with a line feed.
-use Rattle.std.specs.Prelude.{◌≤◌, ℕ, List, [], ◌∷◌, ◌++◌, length, flat_map, decimal, codes}
+-- The certificate of a search: its form, and how it is written.
+use Rattle.std.specs.Prelude.{ℕ, List, [], ◌∷◌, ◌++◌, codes}
 use Rattle.box_core.specs.declared.cert.Cert.{Cert}
 use Rattle.box_specs.specs.declared.certificate.CertLine.{CertLine}
-use Rattle.box_specs.specs.declared.certificate.CertLine.TheVariants.{Dear, Fail, Limit, Pass, Split, Undecided}
 use Rattle.box_specs.specs.declared.certificate.Claim.{Claim}
-use Rattle.box_specs.specs.declared.certificate.Claim.TheVariants.{Floor, Match, NoMatch}
+use Rattle.box_cert.specs.Claims.{claim_of, claim_text}
+use Rattle.box_cert.specs.Form.{Form, Head, text_by}
+use Rattle.box_cert.specs.LineTexts.{as_line}
 
 -- the values of a certificate
 pub record Content : Type 0 where
@@ -15,48 +16,23 @@ pub record Content : Type 0 where
 abbrev pub content : Cert → Content
 content cert = record { claim = cert.claim; listed = cert.undecided; lines = cert.lines }
 
--- numbers with one space between
-abbrev pub numbers_text : List ℕ → List ℕ
-numbers_text [] = []
-numbers_text (n ∷ []) = decimal n
-numbers_text (n ∷ (m ∷ more)) = decimal n ++ (32 ∷ numbers_text (m ∷ more))
+-- the third line
+abbrev pub undecided : Head
+undecided = record { word = codes "undecided"; least = 0; most = 1000000 }
 
--- a line of the tree: `s DYE MID`, `x K`, `f J`, `d`, `u` or `p`
-unfoldable pub line_text : CertLine → List ℕ
-line_text (Split dye mid) = 115 ∷ 32 ∷ numbers_text (dye ∷ mid ∷ [])
-line_text (Limit k) = 120 ∷ 32 ∷ decimal k
-line_text (Fail j) = 102 ∷ 32 ∷ decimal j
-line_text Dear = 100 ∷ []
-line_text Undecided = 117 ∷ []
-line_text Pass = 112 ∷ []
+-- a claim, one list and a tree
+abbrev pub cert_form : Form Claim
+cert_form = record { header = codes "dye-cert 1"; claim_of = claim_of; claim_text = claim_text; heads = λ claim. undecided ∷ [] }
 
--- the recipe of a match has at least one number
-abbrev pub HasNumbers : Claim → Type 0
-HasNumbers (Match recipe) = 1 ≤ length recipe.items
-HasNumbers NoMatch = Unit {0}
-HasNumbers (Floor cost) = Unit {0}
+-- the certificate of a claim, lists and a tree; the form has one list
+abbrev pub made : Claim → List (List (List ℕ)) → List CertLine → Content
+made claim [] lines = record { claim = claim; listed = []; lines = lines }
+made claim (listed ∷ lists) lines = record { claim = claim; listed = listed; lines = lines }
 
-abbrev pub claim_text : Claim → List ℕ
-claim_text (Match recipe) = codes "match " ++ numbers_text recipe.items
-claim_text NoMatch = codes "none"
-claim_text (Floor cost) = codes "floor " ++ decimal cost
-
-abbrev pub count_text : ℕ → List ℕ
-count_text count = codes "undecided " ++ decimal count
-
-abbrev pub as_line : List ℕ → List ℕ
-as_line line = line ++ (10 ∷ [])
-
--- the first three lines
-unfoldable pub head_text : Claim → ℕ → List ℕ
-head_text claim count = (as_line (codes "dye-cert 1") ++ as_line (claim_text claim)) ++ as_line (count_text count)
-
-abbrev pub recipes_text : List (List ℕ) → List ℕ
-recipes_text listed = flat_map (λ steps. as_line (numbers_text steps)) listed
-
-abbrev pub lines_text : List CertLine → List ℕ
-lines_text lines = flat_map (λ line. as_line (line_text line)) lines
+-- the first two lines
+unfoldable pub front_text : Claim → List ℕ
+front_text claim = as_line cert_form.header ++ as_line (claim_text claim)
 
 -- the whole certificate
 unfoldable pub cert_text : Content → List ℕ
-cert_text c = (head_text c.claim (length c.listed) ++ recipes_text c.listed) ++ lines_text c.lines
+cert_text c = text_by cert_form c.claim (c.listed ∷ []) c.lines

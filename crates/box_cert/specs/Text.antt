@@ -1,159 +1,14 @@
--- The text of a certificate, line by line, and its first fault.
-use Rattle.std.specs.Prelude.{◌≡◌, ◌==◌, ◌+◌, ◌^◌, ◌≤◌, ℕ, zero, suc, true, All, if◌then◌else◌, List, [], ◌∷◌, codes, length, Option, Some, None, option_map, Result, Ok, Err}
-use Rattle.std.specs.Str.{bytes_eq}
+-- The certificate that a text spells, or its first fault.
+use Rattle.std.specs.Prelude.{◌≤◌, ℕ, List, length, Result}
 use Rattle.box_specs.specs.declared.certificate.CertFault.{CertFault}
-use Rattle.box_specs.specs.declared.certificate.CertLine.{CertLine}
-use Rattle.box_specs.specs.declared.certificate.CertLine.TheVariants.{Dear, Fail, Limit, Pass, Split, Undecided}
-use Rattle.box_specs.specs.declared.certificate.CertRule.{CertRule}
-use Rattle.box_specs.specs.declared.certificate.CertRule.TheVariants.{BadClaim, BadHeader, BadLine, Left, Missing}
-use Rattle.box_specs.specs.declared.certificate.Claim.{Claim}
-use Rattle.box_specs.specs.declared.certificate.Claim.TheVariants.{Floor, Match, NoMatch}
-use Rattle.box_core.specs.Ranges.{ClaimFits, LineFits, StepsFit}
-use Rattle.box_specs.specs.Validity.{are_trees}
-use Rattle.box_cert.specs.declared.fault.CertError.{CertError}
-use Rattle.box_cert.specs.declared.fault.CertError.TheVariants as errors
-use Rattle.box_cert.specs.Lines.{cut_at, line_of, recipe_of}
-use Rattle.box_cert.specs.Numbers.{number_of}
-use Rattle.box_cert.specs.Spelling.{Content}
+use Rattle.box_core.specs.Ranges.{AreOfLength, ClaimFits, first_length, recipes_of}
+use Rattle.box_cert.specs.Claims.{HasDims}
+use Rattle.box_cert.specs.Form.{read_by}
+use Rattle.box_cert.specs.Reading.{AreRecipes, IsTree}
+use Rattle.box_cert.specs.Spelling.{Content, cert_form, made}
 
--- a call that failed agrees with what the definition reads: the same fault, or memory ran out
-abbrev pub FailsAs : {Y : Type 0} → CertError → Result Y CertFault → Type 0
-FailsAs errors.Memory read = Unit {0}
-FailsAs (errors.Fault f) read = read ≡ Err f
-
--- the result of a call, mapped by view, is what the definition reads, unless memory ran out
-abbrev pub Gives : {X Y : Type 0} → (X → Y) → Result X CertError → Result Y CertFault → Type 0
-Gives view (Ok x) read = read ≡ Ok (view x)
-Gives view (Err e) read = FailsAs e read
-
-infixl 10 ◌>>=◌
-abbrev pub ◌>>=◌ : {A B : Type 0} → Result A CertFault → (A → Result B CertFault) → Result B CertFault
-(Ok x) >>= f = f x
-(Err e) >>= f = Err e
-
--- the rest of a text while it is read: the number of the next line, the lines to come, and the
--- bytes after the last line feed
-pub record Cursor : Type 0 where
-  pub number : ℕ
-  pub lines : List (List ℕ)
-  pub left : List ℕ
-
--- a text in lines, with one more byte before it
-abbrev pub byte_first : ℕ → List (List ℕ) × List ℕ → List (List ℕ) × List ℕ
-byte_first b ([], left) = ([], b ∷ left)
-byte_first b ((line ∷ lines), left) = ((b ∷ line) ∷ lines, left)
-
--- the lines of a text that end with a line feed, and the bytes after the last of them
-abbrev pub lines_of : List ℕ → List (List ℕ) × List ℕ
-lines_of [] = ([], [])
-lines_of (b ∷ bs) = if b == 10 then ([] ∷ (lines_of bs).0, (lines_of bs).1) else byte_first b (lines_of bs)
-
-abbrev pub cursor_of : ℕ → List ℕ → Cursor
-cursor_of number text = record { number = number; lines = (lines_of text).0; left = (lines_of text).1 }
-
-abbrev pub fault : {A : Type 0} → ℕ → CertRule → Result A CertFault
-fault line rule = Err (record { line = line; rule = rule })
-
--- the next line
-abbrev pub line_from : ℕ → List (List ℕ) → List ℕ → Result (List ℕ × Cursor) CertFault
-line_from number [] left = fault number Missing
-line_from number (line ∷ lines) left = Ok (line, record { number = number + 1; lines = lines; left = left })
-
-abbrev pub next_line : Cursor → Result (List ℕ × Cursor) CertFault
-next_line p = line_from p.number p.lines p.left
-
--- the value that was read from a line, or the fault of the rule that it breaks
-abbrev pub line_result : {A : Type 0} → ℕ → CertRule → Option A → Cursor → Result (A × Cursor) CertFault
-line_result number rule None next = fault number rule
-line_result number rule (Some x) next = Ok (x, next)
-
-abbrev pub next_of : {A : Type 0} → CertRule → (List ℕ → Option A) → Cursor → Result (A × Cursor) CertFault
-next_of rule kind p = next_line p >>= λ r. line_result p.number rule (kind r.0) r.1
-
--- the first line
-abbrev pub header_of : List ℕ → Option (Unit {0})
-header_of line = if bytes_eq line (codes "dye-cert 1") then Some tt else None
-
--- the claim of a line, which is given whole and cut at its first space, if it has one
-abbrev pub claim_in : ℕ → List ℕ → Option (List ℕ × List ℕ) → Option Claim
-claim_in dims line None = if bytes_eq line (codes "none") then Some NoMatch else None
-claim_in dims line (Some r) =
-    if bytes_eq r.0 (codes "match") then option_map (λ ns. Match (record { items = ns })) (recipe_of dims r.1)
-    else (if bytes_eq r.0 (codes "floor") then option_map (λ cost. Floor cost) (number_of 0 (10 ^ 15) r.1) else None)
-
--- the second line
-abbrev pub claim_of : ℕ → List ℕ → Option Claim
-claim_of dims line = claim_in dims line (cut_at 32 line)
-
--- the recipe of a match has a number for each dye
-abbrev pub HasDims : ℕ → Claim → Type 0
-HasDims dims (Match recipe) = length recipe.items ≡ dims
-HasDims dims NoMatch = Unit {0}
-HasDims dims (Floor cost) = Unit {0}
-
--- how many recipes are listed, from a line cut at its first space
-abbrev pub count_in : Option (List ℕ × List ℕ) → Option ℕ
-count_in None = None
-count_in (Some r) = if bytes_eq r.0 (codes "undecided") then number_of 0 1000000 r.1 else None
-
--- the third line
-abbrev pub count_of : List ℕ → Option ℕ
-count_of line = count_in (cut_at 32 line)
-
--- the given number of recipes of dims dyes
-abbrev pub recipes_at : ℕ → ℕ → Cursor → Result (List (List ℕ) × Cursor) CertFault
-recipes_at dims zero p = Ok ([], p)
-recipes_at dims (suc k) p = next_of BadLine (recipe_of dims) p >>= λ r. recipes_at dims k r.1 >>= λ rs. Ok (r.0 ∷ rs.0, rs.1)
-
--- count recipes, each of dims dyes
-pub record AreRecipes (dims count : ℕ) (listed : List (List ℕ)) : Type 0 where
-  pub many : length listed ≡ count
-  pub each : All (λ steps. length steps ≡ dims) listed
-  pub fits : All StepsFit listed
-
--- the lines of one tree, each in its ranges
-pub record IsTree (lines : List CertLine) : Type 0 where
-  pub whole : are_trees 1 lines ≡ true
-  pub short : length lines ≤ 32000000
-  pub fits : All LineFits lines
-
--- how many subtrees follow a line
-abbrev pub parts_of : CertLine → ℕ
-parts_of (Split dye mid) = 2
-parts_of (Limit k) = 0
-parts_of (Fail j) = 0
-parts_of Dear = 0
-parts_of Undecided = 0
-parts_of Pass = 0
-
-abbrev pub line_then : ℕ → Option CertLine → (CertLine → Result (List CertLine × Cursor) CertFault) → Result (List CertLine × Cursor) CertFault
-line_then number None rest = fault number BadLine
-line_then number (Some line) rest = rest line >>= λ r. Ok (line ∷ r.0, r.1)
-
--- the given number of trees, one after the other
-abbrev pub trees_from : ℕ → ℕ → List (List ℕ) → List ℕ → Result (List CertLine × Cursor) CertFault
-trees_from zero number lines left = Ok ([], record { number = number; lines = lines; left = left })
-trees_from (suc k) number [] left = fault number Missing
-trees_from (suc k) number (text ∷ lines) left = line_then number (line_of text) (λ line. trees_from (parts_of line + k) (number + 1) lines left)
-
-abbrev pub trees_at : ℕ → Cursor → Result (List CertLine × Cursor) CertFault
-trees_at trees p = trees_from trees p.number p.lines p.left
-
--- nothing follows the tree
-abbrev pub nothing_left : {A : Type 0} → A → ℕ → List (List ℕ) → List ℕ → Result A CertFault
-nothing_left c number [] [] = Ok c
-nothing_left c number [] (b ∷ bs) = fault number Left
-nothing_left c number (line ∷ lines) left = fault number Left
-
--- the certificate that a text spells, or its first fault
 unfoldable pub cert_of : ℕ → List ℕ → Result Content CertFault
-cert_of dims text = do
-  head ← next_of BadHeader header_of (cursor_of 1 text)
-  claim ← next_of BadClaim (claim_of dims) head.1
-  count ← next_of BadClaim count_of claim.1
-  listed ← recipes_at dims count.0 count.1
-  tree ← trees_at 1 listed.1
-  nothing_left (record { claim = claim.0; listed = listed.0; lines = tree.0 }) tree.1.number tree.1.lines tree.1.left
+cert_of dims text = read_by cert_form made dims text
 
 -- a certificate of recipes of dims dyes, with each number in its range
 pub record IsCertFor (dims : ℕ) (c : Content) : Type 0 where
@@ -162,3 +17,11 @@ pub record IsCertFor (dims : ℕ) (c : Content) : Type 0 where
   pub few : length c.listed ≤ 1000000
   pub listed : AreRecipes dims (length c.listed) c.listed
   pub tree : IsTree c.lines
+
+-- the dyes of the recipes of a certificate, 1 where it has none
+abbrev pub dyes_of : Content → ℕ
+dyes_of c = first_length (recipes_of c.claim c.listed)
+
+-- all recipes of a certificate are of dims dyes, 1 to 12
+abbrev pub HaveDyes : ℕ → Content → Type 0
+HaveDyes dims c = AreOfLength dims (recipes_of c.claim c.listed)

@@ -1,8 +1,9 @@
 //! The laws of reading and writing. A call does nothing; what it ensures is the law.
 
 ghost use Rattle.std.specs.Prelude.{◌≡◌, ◌≤◌, ℕ, List, Ok};
-ghost use Rattle.box_cert.specs.Spelling.{Content, cert_text};
-ghost use Rattle.box_cert.specs.Text.{IsCertFor, cert_of};
+ghost use Rattle.box_core.specs.declared.cert.Cert.{Cert};
+ghost use Rattle.box_cert.specs.Spelling.{Content, cert_text, content};
+ghost use Rattle.box_cert.specs.Text.{HaveDyes, IsCertFor, cert_of, dyes_of};
 
 /// The text of a certificate is read as that certificate, and no other text is.
 pub fn one_spelling()
@@ -10,4 +11,14 @@ pub fn one_spelling()
         cert_of dims (cert_text c) ≡ Ok c }
     ensures takes { (dims : ℕ) (text : List ℕ) (c : Content) →
         cert_of dims text ≡ Ok c → text ≡ cert_text c }
+{}
+
+/// Each value of type `Cert` has numbers in their ranges and recipes of one number of dyes, and its
+/// text is read as that value.
+pub fn each_is_read()
+    ensures dyes { (cert : Cert) → HaveDyes (dyes_of (content cert)) (content cert) }
+    ensures fits { (cert : Cert) (dims : ℕ) → HaveDyes dims (content cert) →
+        IsCertFor dims (content cert) }
+    ensures read { (cert : Cert) (dims : ℕ) → HaveDyes dims (content cert) →
+        cert_of dims (cert_text (content cert)) ≡ Ok (content cert) }
 {}

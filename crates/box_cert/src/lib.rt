@@ -1,6 +1,7 @@
 //! The text of certificates, both ways: each certificate has one spelling.
 #![tactic(auto)]
 
+mod draft;
 mod fault;
 pub mod laws;
 mod line;

@@ -6,7 +6,7 @@ ghost use Rattle.box_core.specs.Ranges.{LineFits, StepsFit};
 ghost use Rattle.box_specs.specs.declared.certificate.CertLine.{CertLine};
 ghost use Rattle.box_cert.specs.Lines.{line_of, recipe_of, split_of};
 ghost use Rattle.box_cert.specs.Numbers.{number_of};
-ghost use Rattle.box_cert.specs.Spelling.{line_text, numbers_text};
+ghost use Rattle.box_cert.specs.LineTexts.{line_text, numbers_text};
 
 use crate::number::{cut_at, number, put_small};
 use arrayvec::ArrayVec;
@@ -112,7 +112,7 @@ pub fn read_recipe(line: &[u8], dims: usize) -> Option<Steps>
 }
 
 /// Appends the spelling of a line of a tree, without a line feed.
-#[tactic(auto, unfolding(crate::specs::Spelling::line_text))]
+#[tactic(auto, unfolding(crate::specs::LineTexts::line_text))]
 pub fn put_line(line: &CertLine, into: &mut ArrayVec<u8, 80>)
     requires fits { LineFits line.now }
     requires room { array_vec_len into.old + 64 ≤ 80 }

@@ -21,8 +21,8 @@ use Rattle.box_search.proofs.Ranks.{whole}
 use Rattle.box_search.proofs.Results.{few_below, result_is_canonical}
 use Rattle.box_search.proofs.Valid.{answer, canonical_is_valid, first_is}
 use Rattle.box_core.specs.Ranges.{LineFits, StepsFit}
-use Rattle.box_cert.specs.Text.{HasDims}
-use Rattle.box_cert.proofs.Again.{cert_again}
+use Rattle.box_cert.specs.Claims.{HasDims}
+use Rattle.box_cert.proofs.CertForm.{cert_again}
 use Rattle.cert_check.proofs.Sound.{valid_means}
 use Rattle.cert_laws.specs.Laws.{ClaimHolds, ResultFits, ResultIsFirst, ResultIsRead, ResultIsShort, ResultIsValid, ResultMeans, search_cert}
 use Rattle.cert_laws.proofs.Sizes.{corners_few, line_size, order_few, total, tree_sizes}

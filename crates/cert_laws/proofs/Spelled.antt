@@ -9,8 +9,11 @@ use Rattle.box_specs.specs.declared.certificate.CertLine.TheVariants.{Dear, Fail
 use Rattle.box_specs.specs.declared.certificate.Claim.{Claim}
 use Rattle.box_specs.specs.declared.certificate.Claim.TheVariants.{Floor, Match, NoMatch}
 use Rattle.box_core.specs.Ranges.{ClaimFits, LineFits, StepsFit}
-use Rattle.box_cert.specs.Spelling.{Content, as_line, cert_text, claim_text, count_text, head_text, line_text, lines_text, numbers_text, recipes_text}
-use Rattle.box_cert.specs.Text.{HasDims, IsCertFor}
+use Rattle.box_cert.specs.Claims.{HasDims, claim_text}
+use Rattle.box_cert.specs.Form.{count_text}
+use Rattle.box_cert.specs.LineTexts.{as_line, line_text, lines_text, numbers_text, recipes_text}
+use Rattle.box_cert.specs.Spelling.{Content, cert_text, front_text, undecided}
+use Rattle.box_cert.specs.Text.{IsCertFor}
 use Rattle.cert_laws.proofs.Sizes.{line_size, total}
 
 small : (n : ℕ) → n ≤ 4000 → length (decimal n) ≤ 4
@@ -85,21 +88,21 @@ claim_short (Floor cost) dims h k d =
     let all = ended_long (claim_text (Floor cost)) in
     omega (arith, one, keyword, all)
 
-count_short : (n : ℕ) → n ≤ 1000000 → length (as_line (count_text n)) ≤ 18
+count_short : (n : ℕ) → n ≤ 1000000 → length (as_line (count_text undecided n)) ≤ 18
 count_short n h =
     let one = length-decimal-le 7 n (omega arith) (omega (arith, h)) (omega (arith, h)) in
-    let keyword = length-append (codes "undecided ") (decimal n) in
-    let all = ended_long (count_text n) in
+    let keyword = length-append (codes "undecided") (32 ∷ decimal n) in
+    let all = ended_long (count_text undecided n) in
     omega (arith, one, keyword, all)
 
 -- a certificate for up to 12 dyes has at most 100 bytes for its first three lines, 60 for each
 -- listed recipe, and the sizes of the lines of its tree
 pub cert_short : (dims : ℕ) (c : Content) → dims ≤ 12 → IsCertFor dims c → length (cert_text c) ≤ 100 + 60 * length c.listed + total line_size c.lines
-unfolding cert_text head_text
+unfolding cert_text front_text
 cert_short dims c few h =
     let header = as_line (codes "dye-cert 1") in
     let claim = as_line (claim_text c.claim) in
-    let number = as_line (count_text (length c.listed)) in
+    let number = as_line (count_text undecided (length c.listed)) in
     let head = (header ++ claim) ++ number in
     let one = claim_short c.claim dims h.numbers h.claim few in
     let two = count_short (length c.listed) h.few in

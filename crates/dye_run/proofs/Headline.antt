@@ -44,7 +44,7 @@ use Rattle.dye_run.specs.Reading.{DueFile, Gets, each_file, makes}
 use Rattle.dye_run.specs.Search.{conclusion_of, result_for, result_report, search_report}
 use Rattle.dye_run.specs.Statuses as table
 use Rattle.dye_run.specs.Words.{CertWords}
-use Rattle.dye_run.proofs.CertTrees.{one_tree}
+use Rattle.box_cert.proofs.CertForm.{cert_tree}
 use Rattle.dye_run.proofs.FilesKnown.{ok_next, reported_on, result_from}
 use Rattle.dye_run.proofs.FormWords.{AreCertWords, KeepsWords, ends_as_cert, form_keeps, mapped}
 use Rattle.dye_run.proofs.JobsRead.{job_again, job_alone, pieces_of, text_read}
@@ -260,7 +260,7 @@ module _ (words : CertWords) (before after : World) (report : Report) where
       let holds = holds_from r content checked.0 checked.1 in
       let is : accepted_report r checked.0.claim ≡ report = (let h : Ok (accepted_report r checked.0.claim) ≡ Ok report = checked.2 in cc) in
       let h : IsSearchable r = subst (λ x. IfSome x.recipes IsSearchable) (sym is) searched in
-      let whole = one_tree (length (recipe_land r).top.lo) text content spells in
+      let whole = cert_tree (length (recipe_land r).top.lo) text content spells in
       record {
         job = r;
         cert = content;

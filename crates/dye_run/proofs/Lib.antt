@@ -1,4 +1,3 @@
-mod CertTrees
 mod CheckFacts
 mod Colours
 mod CoordinateLaws

@@ -1,5 +1,5 @@
-use Rattle.box_cert.proofs.Again.{cert_again}
-use Rattle.box_cert.proofs.Takes.{cert_takes}
+use Rattle.box_cert.proofs.CertForm.{cert_again}
+use Rattle.box_cert.proofs.CertForm.{cert_takes}
 use Rattle.box_cert.proofs.laws.one_spelling.Goals as goal
 
 pub returns : goal.returns

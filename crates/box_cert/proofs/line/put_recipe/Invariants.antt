@@ -1,6 +1,6 @@
 use Rattle.std.proofs.Common.{◌≡◌, ◌+◌, ◌*◌, ◌≤◌, ◌++◌, take}
 use Rattle.arrayvec.specs.ArrayVec.{array_vec_len}
-use Rattle.box_cert.specs.Spelling.{numbers_text}
+use Rattle.box_cert.specs.LineTexts.{numbers_text}
 use Rattle.box_cert.proofs.line.put_recipe.Given as goal
 
 abbrev pub invariant-loop-i : goal.invariant-loop-i

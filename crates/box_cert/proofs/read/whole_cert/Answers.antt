@@ -1,37 +1,50 @@
-use Rattle.std.proofs.Common.{ℕ, List, refl, sym, ◌∙◌, subst, arith}
-use Rattle.box_cert.specs.Text.{AreRecipes, FailsAs, IsTree, cert_of, cursor_of}
-use Rattle.box_cert.proofs.Parts.{cert_parts, left_fault, not_empty, one_length}
-use Rattle.box_cert.specs.declared.fault.CertError.{CertError}
+use Rattle.std.proofs.Common.{◌≡◌, ◌∙◌, sym, ap, subst, arith}
+use Rattle.std.specs.Prelude.{Some, Result, option_map}
+use Rattle.box_specs.specs.declared.certificate.CertFault.{CertFault}
+use Rattle.box_cert.specs.Drafts.{still}
+use Rattle.box_cert.specs.Lines.{cut_at}
+use Rattle.box_cert.specs.Spelling.{Content, content}
+use Rattle.box_cert.specs.Reading.{FailsAs, Gives}
+use Rattle.box_cert.proofs.Cuts.{cut_length}
+use Rattle.box_cert.proofs.Drafting.{begins}
+use Rattle.box_cert.proofs.TextLines.{line_first, no_line}
 use Rattle.box_cert.proofs.read.whole_cert.Goals as goal
 
-pub returns-then-not-is_empty-clause-exact : goal.returns-then-not-is_empty-clause-exact
-returns-then-not-is_empty-clause-exact c =
-    let read = cert_parts c.args.dims c.args.bytes.now c.in_ok-claim.claim c.in_ok-count.count _ c.in_ok-lines.lines.items _ _ _ _ (cursor_of c.in_ok-lines.number c.in_ok-lines.text.now)
-    c.in_ok-text.ensures.is c.in_ok-claim.ensures.is c.in_ok-count.ensures.is c.in_ok-listed.ensures.is c.in_ok-lines.ensures.is in
-    let F : CertError → Type 0 = λ e. FailsAs e (cert_of c.args.dims c.args.bytes.now) in
-    subst F (sym c.fault.ensures) (read ∙ left_fault _ c.in_ok-lines.number c.in_ok-lines.text.now (not_empty _ (sym c.is_empty.ensures ∙ c.if-not-is_empty.true)))
+pub loop-line-init : goal.loop-line-init
+loop-line-init c =
+    let new = c.new-draft.ensures in
+    record { draft = new.draft; dims = new.dims; bytes = omega (arith, new.number); so_far = begins c.new-draft.result c.args.dims c.args.bytes.now new.part new.dims new.number }
 
-pub invariant_of-result : goal.invariant_of-result
-invariant_of-result c =
-    let P : List (List ℕ) → Type 0 = λ xs. AreRecipes c.args.dims c.in_ok-count.count xs in
-    let recipes = subst P (sym c.of.ensures) c.in_ok-listed.ensures.recipes in
-    let tree = subst IsTree (sym c.of-2.ensures) c.in_ok-lines.ensures.tree in
+pub loop-line-smaller : goal.loop-line-smaller
+loop-line-smaller c =
+    let size = cut_length 10 c.loop-line.rest.now _ (sym c.cut_at.ensures ∙ ap (option_map (λ r. (r.0.now, r.1.now))) c.in-Some.is) in
+    omega (arith, size)
+
+pub loop-line-preserved : goal.loop-line-preserved
+loop-line-preserved c =
+    let so_far = c.loop-line.invariant in
+    let took = c.in-Ok.ensures in
+    let line = c.in-Some.line.now in
+    let tail = c.in-Some.tail.now in
+    let cut : cut_at 10 c.loop-line.rest.now ≡ Some (line, tail) = sym c.cut_at.ensures ∙ ap (option_map (λ r. (r.0.now, r.1.now))) c.in-Some.is in
+    let size = cut_length 10 c.loop-line.rest.now _ cut in
     record {
-      whole = tree.whole;
-      short = tree.short;
-      few = omega (arith, recipes.many, c.in_ok-count.ensures.few);
-      one_length = one_length c.args.dims c.in_ok-count.count c.in_ok-claim.claim c.of.result c.requires.some c.requires.few c.in_ok-claim.ensures.dims recipes;
-      numbers = (c.in_ok-claim.ensures.fits, recipes.fits, tree.fits);
+      draft = took.draft;
+      dims = took.dims ∙ so_far.dims;
+      bytes = omega (arith, size, so_far.bytes, took.number, took.some);
+      so_far = took.same _ _ ∙ sym (ap (λ r. still c.loop-line.draft r.0 r.1) (line_first c.loop-line.rest.now line tail cut)) ∙ so_far.so_far;
     }
 
-pub returns-clause-fits : goal.returns-clause-fits
-returns-clause-fits c =
-    let P : List (List ℕ) → Type 0 = λ xs. AreRecipes c.args.dims c.in_ok-count.count xs in
-    let recipes = subst P (sym c.of.ensures) c.in_ok-listed.ensures.recipes in
-    record {
-      numbers = c.in_ok-claim.ensures.fits;
-      claim = c.in_ok-claim.ensures.dims;
-      few = omega (arith, recipes.many, c.in_ok-count.ensures.few);
-      listed = record { many = refl; each = recipes.each; fits = recipes.fits };
-      tree = subst IsTree (sym c.of-2.ensures) c.in_ok-lines.ensures.tree;
-    }
+pub returns-in-Err-clause-exact : goal.returns-in-Err-clause-exact
+returns-in-Err-clause-exact c =
+    let line = c.in-Some.line.now in
+    let tail = c.in-Some.tail.now in
+    let cut : cut_at 10 c.loop-line.rest.now ≡ Some (line, tail) = sym c.cut_at.ensures ∙ ap (option_map (λ r. (r.0.now, r.1.now))) c.in-Some.is in
+    let P : Result Content CertFault → Type 0 = λ r. FailsAs c.in-Err.e r in
+    subst P (sym (ap (λ r. still c.loop-line.draft r.0 r.1) (line_first c.loop-line.rest.now line tail cut)) ∙ c.loop-line.invariant.so_far) (c.in-Err.ensures _ _)
+
+pub returns-clause-exact : goal.returns-clause-exact
+returns-clause-exact c =
+    let rest = c.loop-line.rest.now in
+    let P : Result Content CertFault → Type 0 = λ r. Gives (λ cert. content cert) c.finish.result r in
+    subst P (sym (ap (λ r. still c.loop-line.draft r.0 r.1) (no_line rest (sym c.cut_at.ensures ∙ ap (option_map (λ r. (r.0.now, r.1.now))) c.in_default.is))) ∙ c.loop-line.invariant.so_far) c.finish.ensures.is

@@ -1,5 +1,5 @@
 use Rattle.std.proofs.Common.{ℕ, List, subst, ◌∙◌, arith}
-use Rattle.box_cert.specs.Spelling.{as_line, line_text}
+use Rattle.box_cert.specs.LineTexts.{as_line, line_text}
 use Rattle.box_cert.specs.Writing.{GoesOn, GoesWrong}
 use Rattle.box_cert.proofs.Pieces.{item_failed, item_next, items_whole, on_nothing}
 use Rattle.box_cert.proofs.write.put_lines.Goals as goal

@@ -1,5 +1,5 @@
 use Rattle.std.proofs.Common.{take}
-use Rattle.box_cert.specs.Spelling.{lines_text}
+use Rattle.box_cert.specs.LineTexts.{lines_text}
 use Rattle.box_cert.specs.Writing.{GoesOn, IsHeld}
 use Rattle.box_cert.proofs.write.put_lines.Given as goal
 

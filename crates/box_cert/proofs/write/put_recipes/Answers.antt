@@ -1,6 +1,6 @@
 use Rattle.arrayvec.specs.ArrayVec.{ArrayVec}
 use Rattle.std.proofs.Common.{ℕ, List, subst, ap, ◌∙◌, arith}
-use Rattle.box_cert.specs.Spelling.{as_line, numbers_text}
+use Rattle.box_cert.specs.LineTexts.{as_line, numbers_text}
 use Rattle.box_cert.specs.Writing.{GoesOn, GoesWrong}
 use Rattle.box_cert.proofs.Pieces.{item_failed, item_next, items_whole, on_nothing}
 use Rattle.box_cert.proofs.write.put_recipes.Goals as goal

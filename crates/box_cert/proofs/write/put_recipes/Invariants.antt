@@ -1,6 +1,6 @@
 use Rattle.std.proofs.Common.{ℕ, take, flat_map}
 use Rattle.arrayvec.specs.ArrayVec.{ArrayVec}
-use Rattle.box_cert.specs.Spelling.{as_line, numbers_text}
+use Rattle.box_cert.specs.LineTexts.{as_line, numbers_text}
 use Rattle.box_cert.specs.Writing.{GoesOn, IsHeld}
 use Rattle.box_cert.proofs.write.put_recipes.Given as goal
 
