@@ -9,7 +9,7 @@ use Rattle.std.proofs.lemmas.Slice.Eq.{bytes_eq-Decides}
 use Rattle.shelf_io.specs.Calls.{one_more}
 use Rattle.shelf_io.specs.Counts.{CountsFailure, IsRaised}
 use Rattle.shelf_io.specs.Held.{Held, held_under, change_under}
-use Rattle.shelf_io.proofs.Files.{under_changed}
+use Rattle.shelf_io.proofs.Files.{not_true, under_changed}
 use Rattle.shelf_io.proofs.Shelves.{under_choice, choice_both}
 
 pub grows_one : (n : ℕ) → n ≤ one_more n
@@ -83,10 +83,6 @@ counted_as result fails before now e h = let P : Bool → Type 0 = λ b. CountsF
 
 pub same_name : (n : List ℕ) → bytes_eq n n ≡ true
 same_name n = (bytes_eq-Decides n n).1 refl
-
-not_true : (b : Bool) → (b ≡ true → ⊥) → b ≡ false
-not_true true h = absurd (h refl)
-not_true false h = refl
 
 pub other_name : (n name : List ℕ) → n ≢ name → bytes_eq n name ≡ false
 other_name n name h = not_true (bytes_eq n name) (λ e. h ((bytes_eq-Decides n name).0 e))

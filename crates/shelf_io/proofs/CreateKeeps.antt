@@ -13,7 +13,7 @@ use Rattle.shelf_io.specs.MemShelf.{ShelfState, is_held, create_fails, create_af
 use Rattle.shelf_io.proofs.Changes.{count_grows, count_others, count_rose, counted, counted_as, file_after, grows_one, kept, kept_or, other_name, same_name, still_held, under_after}
 use Rattle.shelf_io.proofs.Files.{under_pushed}
 use Rattle.shelf_io.proofs.Promises.{none_fails, reads_facts, reads_promise, writes_facts, writes_promise}
-use Rattle.shelf_io.proofs.ReadKeeps.{is_fine}
+use Rattle.shelf_io.proofs.ReadKeeps.{is_fine, shared_grows}
 use Rattle.shelf_io.proofs.Shelves.{same_contents, same_file, bytes_eq_comm}
 
 -- the three outcomes of a create
@@ -104,10 +104,6 @@ empty_file_writes s name n = ap (λ u. option_map_or (λ f. f.writes) u s.shared
 
 new_file_writes : (s : ShelfState) (name n : List ℕ) → shelf_writes (with_new_file s name) n ≡ shelf_writes s n
 new_file_writes s name n = ap (λ u. option_map_or (λ f. f.writes) u s.shared_writes) (under_pushed n s.files (new_file s name)) ∙ pushed_or (λ f. f.writes) (held_under n s.files) (bytes_eq name n) (new_file s name) s.shared_writes refl
-
-shared_grows : (held : Bool) (shared : ℕ) → shared ≤ (if held then shared else one_more shared)
-shared_grows true shared = omega arith
-shared_grows false shared = grows_one shared
 
 created_grows : (s t : ShelfState) (name : List ℕ) → Created s t name → (n : List ℕ) → shelf_writes s n ≤ shelf_writes t n
 created_grows s t name (failed f e) = λ n.

@@ -67,7 +67,7 @@ pub record NamesAgree (f name n : List ℕ) : Type 0 where
   pub first : bytes_eq f name ≡ true → bytes_eq f n ≡ false → bytes_eq n name ≡ false
   pub second : bytes_eq f name ≡ false → bytes_eq f n ≡ true → bytes_eq n name ≡ false
 
-not_true : (b : Bool) → (b ≡ true → ⊥) → b ≡ false
+pub not_true : (b : Bool) → (b ≡ true → ⊥) → b ≡ false
 not_true true h = absurd (h refl)
 not_true false h = refl
 

@@ -40,7 +40,7 @@ read_under s name offset size n = under_after true name n (change s name offset 
 abbrev shared_after : ShelfState → List ℕ → ℕ
 shared_after s name = if is_held s name then s.shared_reads else one_more s.shared_reads
 
-shared_grows : (held : Bool) (shared : ℕ) → shared ≤ (if held then shared else one_more shared)
+pub shared_grows : (held : Bool) (shared : ℕ) → shared ≤ (if held then shared else one_more shared)
 shared_grows true shared = omega arith
 shared_grows false shared = grows_one shared
 

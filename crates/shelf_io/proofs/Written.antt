@@ -4,6 +4,7 @@ use Rattle.std.proofs.Common.{◌≡◌, ◌-◌, ◌≤◌, ℕ, Bool, true, fa
 use Rattle.std.specs.Option.{ForSome}
 use Rattle.std.specs.Str.{bytes_eq}
 use Rattle.std.proofs.lemmas.Bool.{false≢true}
+use Rattle.std.proofs.lemmas.Option.{none-some}
 use Rattle.shelf_io.specs.Contents.{Contents, AddsTo, add_piece, put_bytes, write_bytes}
 use Rattle.shelf_io.proofs.Changes.{same_name}
 use Rattle.shelf_io.proofs.Shelves.{same_contents}
@@ -48,12 +49,9 @@ some_there : (q : Bool) (bytes : List ℕ) (u : Option (List ℕ)) → q ≡ tru
 some_there true bytes u h = refl
 some_there false bytes u h = absurd (false≢true h)
 
-none_some : (c : Contents) → None ≡ Some c → ⊥
-none_some c h = cc
-
 -- a written name is held, as an append requires
 pub written_held : (name bytes : List ℕ) (old now : Option Contents) → now ≡ option_map (write_bytes name bytes) old → ForSome now (λ c. IsSome (c.file name))
-written_held name bytes None now h = λ c e. absurd (none_some c (sym h ∙ e))
+written_held name bytes None now h = λ c e. absurd (none-some c (sym h ∙ e))
 written_held name bytes (Some d) now h = λ c e.
     let P : Option Contents → Type 0 = λ x. IfSome x (λ k. IsSome (k.file name)) in
     let there : IfSome (Some (write_bytes name bytes d)) (λ k. IsSome (k.file name)) = some_there (bytes_eq name name) bytes (d.file name) (same_name name) in
