@@ -130,7 +130,7 @@ impl BrokenLine {
     }
 
     /// The values of the line over units from `x0` to `x1` at a wavelength.
-    #[inline(always)]
+    #[inline(never)]
     pub(crate) fn value_over<S: Scale>(
         &self,
         substrate: &Curve,

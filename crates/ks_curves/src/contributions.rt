@@ -34,6 +34,7 @@ pub fn contribution_range<S: Scale>(dye: &Dye, n0: u16, n1: u16, wave: usize) ->
 }
 
 /// The contribution of `x0` to `x1` units of the dye to K/S at a wavelength.
+#[inline(always)]
 pub fn contribution_units<S: Scale>(dye: &Dye, x0: u32, x1: u32, wave: usize) -> Iv<S>
     requires wave { wave < length dye.now.substrate }
     requires ordered { x0 ≤ x1 }
@@ -47,6 +48,7 @@ pub fn contribution_units<S: Scale>(dye: &Dye, x0: u32, x1: u32, wave: usize) ->
 
 /// The contribution of an addition of `x0` to `x1` units of the dye, where `bath` units of it are
 /// on the cloth.
+#[inline(always)]
 pub fn addition_units<S: Scale>(dye: &Dye, bath: u32, x0: u32, x1: u32, wave: usize) -> Iv<S>
     requires wave { wave < length dye.now.substrate }
     requires ordered { x0 ≤ x1 }

@@ -108,6 +108,7 @@ impl Dye {
     }
 
     /// The value of the calibration over units from `x0` to `x1` at a wavelength.
+    #[inline(always)]
     pub(crate) fn value_over<S: Scale>(&self, x0: u32, x1: u32, wave: usize) -> Iv<S>
         requires wave { wave < length self.now.substrate }
         requires ordered { x0 ≤ x1 }
