@@ -7,10 +7,10 @@ use Rattle.std.proofs.lemmas.List.{append-nil}
 use Rattle.toml.specs.Data.{Members, as_table, table}
 use Rattle.toml.specs.View.{items_of}
 use Rattle.spectral_tables.specs.Name.{is_name}
-use Rattle.job_file.specs.Arrays.{all_after, each, tables}
+use Rattle.job_keys.specs.Arrays.{all_after, each, tables}
 use Rattle.job_file.specs.Dye.{dye, has_dye, next_dye}
 use Rattle.job_file.specs.Dyeing.{dyeing}
-use Rattle.job_file.specs.Keys.{name, whole, whole_or}
+use Rattle.job_keys.specs.Keys.{name, whole, whole_or}
 use Rattle.job_file.specs.declared.dye.JobDye.{JobDye}
 use Rattle.demo_jobs.specs.declared.dyes.DrawnDye.{DrawnDye}
 use Rattle.demo_jobs.specs.CurveText.{dye_name, dyeing_name}

@@ -1,9 +1,9 @@
 -- A text that writes the table of a job is read as that job.
 use Rattle.std.proofs.Common.{◌≡◌, nat_le, true, ℕ, Ok, Some, List, [], length, map, refl}
-use Rattle.job_file.specs.Arrays.{table_if_any, tables, tables_or_none}
+use Rattle.job_keys.specs.Arrays.{table_if_any, tables, tables_or_none}
 use Rattle.job_file.specs.Job.{job_at, job_of, tree_of}
-use Rattle.job_file.specs.Keys.{file_text, name, whole, whole_if_any, whole_or}
-use Rattle.job_file.specs.Light.{light}
+use Rattle.job_keys.specs.Keys.{file_text, name, whole, whole_if_any, whole_or}
+use Rattle.job_keys.specs.Light.{light}
 use Rattle.job_file.specs.Top.{head, inner, keys}
 use Rattle.job_file.specs.declared.top.BatchRule.TheVariants.{Either, Without}
 use Rattle.demo_jobs.specs.declared.dyes.DrawnDye.{DrawnDye}

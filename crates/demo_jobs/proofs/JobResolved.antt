@@ -11,7 +11,7 @@ use Rattle.mix_model.specs.Base.{base_at}
 use Rattle.mix_model.specs.Mixture.{mixture_ks_at, no_steps}
 use Rattle.mix_model.specs.Strength.{is_too_strong}
 use Rattle.price_grid.specs.Grid.{IsUpTo}
-use Rattle.job_file.specs.Arrays.{each}
+use Rattle.job_keys.specs.Arrays.{each}
 use Rattle.job_file.specs.Resolve.{limits_of, most_steps, next_calibrated, resolved_job, up_to_most}
 use Rattle.demo_jobs.specs.declared.dyes.DrawnDye.{DrawnDye}
 use Rattle.demo_jobs.specs.Cloths.{substrate}

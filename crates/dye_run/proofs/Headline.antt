@@ -21,7 +21,7 @@ use Rattle.cert_laws.proofs.Searched.{result_is_first, result_is_read, result_is
 use Rattle.cert_laws.specs.Laws.{ClaimHolds, content_of}
 use Rattle.job_file.specs.Job.{Values, job_of}
 use Rattle.job_file.specs.Resolve.{ResolvedJob}
-use Rattle.job_file.specs.declared.fault.JobFault.{JobFault}
+use Rattle.job_keys.specs.declared.fault.JobFault.{JobFault}
 use Rattle.job_file.specs.declared.top.BatchRule.{BatchRule}
 use Rattle.job_file.specs.declared.top.BatchRule.TheVariants.{Either}
 use Rattle.recipe_judge.specs.Recipes.{recipe_land}

@@ -3,7 +3,7 @@ use Rattle.std.proofs.Common.{◌≡◌, ◌+◌, ◌<◌, ◌≤◌, ℕ, List,
 use Rattle.std.proofs.lemmas.List.{drop_all}
 use Rattle.std.specs.List.{AllZip}
 use Rattle.interval_specs.specs.Ends.{Ends}
-use Rattle.job_file.specs.declared.light.JobLight.{JobLight}
+use Rattle.job_keys.specs.declared.light.JobLight.{JobLight}
 use Rattle.job_file.specs.Resolve.{ResolvedJob}
 use Rattle.metamerism.specs.Verdicts.{light_verdict}
 use Rattle.metamerism.specs.declared.outcomes.Verdict.{Verdict}

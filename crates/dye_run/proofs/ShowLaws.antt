@@ -8,7 +8,7 @@ use Rattle.cielab_bounds.proofs.LabLaw.{lab_encloses}
 use Rattle.cmc_specs.proofs.Law.{any_colours_enclose}
 use Rattle.interval_specs.specs.Ends.{Ends}
 use Rattle.interval_specs.specs.Encloses.{Encloses}
-use Rattle.job_file.specs.declared.light.JobLight.{JobLight}
+use Rattle.job_keys.specs.declared.light.JobLight.{JobLight}
 use Rattle.job_file.specs.Resolve.{ResolvedJob, base_curve}
 use Rattle.ks_curves.specs.Dye.{DyeData}
 use Rattle.metamerism.specs.Difference.{colour_under}

@@ -3,7 +3,7 @@
 use Rattle.std.specs.Prelude.{ℕ, List, [], ◌∷◌, ◌++◌, Option, Some, None, Result, Ok, Err, map}
 use Rattle.job_file.specs.Job.{Values, job_of}
 use Rattle.job_file.specs.Resolve.{ResolvedJob, resolved_job}
-use Rattle.job_file.specs.declared.fault.JobFault.{JobFault}
+use Rattle.job_keys.specs.declared.fault.JobFault.{JobFault}
 use Rattle.job_file.specs.declared.top.BatchRule.{BatchRule}
 use Rattle.spectral_tables.specs.CurveBook.{Book}
 use Rattle.spectral_tables.specs.declared.grid.WaveGrid.TheVariants.{Ten}

@@ -1,6 +1,6 @@
 -- The outcomes of a call, and tables of the status and the text of each.
 use Rattle.std.specs.Prelude.{ℕ, List, Option, None, Result, Ok, Err}
-use Rattle.job_file.specs.declared.fault.JobFault.{JobFault}
+use Rattle.job_keys.specs.declared.fault.JobFault.{JobFault}
 use Rattle.box_specs.specs.declared.certificate.CertFault.{CertFault}
 use Rattle.box_specs.specs.declared.certificate.Why.{Why}
 use Rattle.price_grid.specs.declared.limit.LimitNo.{LimitNo}

@@ -1,7 +1,7 @@
 //! What a report shows of a recipe.
 
 ghost use Rattle.std.specs.Prelude.{◌≡◌, ◌≤◌, All, length};
-ghost use Rattle.job_file.specs.Light.{IsLight};
+ghost use Rattle.job_keys.specs.Light.{IsLight};
 ghost use Rattle.price_grid.specs.Grid.{IsRecipe};
 ghost use Rattle.recipe_judge.specs.Evaluation.{tolerances};
 ghost use Rattle.shade_report.specs.Recipes.{shown_view};

@@ -3,28 +3,30 @@ use Rattle.std.proofs.Common.{◌≡◌, ◌∙◌, ℕ, Bool, true, false, Opti
 use Rattle.std.specs.Prelude.{◌||◌, not, is_some, codes}
 use Rattle.std.specs.Option.{unwrap_or}
 use Rattle.toml.specs.Data.{Data, Members, get_member, no_members}
-use Rattle.job_file.specs.declared.fault.JobFault.{JobFault}
-use Rattle.job_file.specs.declared.fault.JobRule.{JobRule}
-use Rattle.job_file.specs.declared.fault.JobRule.TheVariants.{MissingKey, NotToml, NotVersion1, UnknownKey}
-use Rattle.job_file.specs.declared.fault.Position.{Position}
+use Rattle.job_keys.specs.declared.fault.JobFault.{JobFault}
+use Rattle.job_keys.specs.declared.fault.JobRule.{JobRule}
+use Rattle.job_keys.specs.declared.fault.JobRule.TheVariants.{MissingKey, NotToml, NotVersion1, UnknownKey}
+use Rattle.job_keys.specs.declared.fault.Position.{Position}
 use Rattle.job_file.specs.declared.top.BatchRule.{BatchRule}
-use Rattle.job_file.specs.Arrays.{table_if_any}
-use Rattle.job_file.specs.Dye.{next_dye}
-use Rattle.job_file.specs.Faults.{◌>>=◌, ◌>>◌, ensure, or_fault}
+use Rattle.job_keys.specs.Arrays.{table_if_any}
+use Rattle.job_file.specs.Dye.{has_dye, next_dye}
+use Rattle.job_keys.specs.Faults.{◌>>=◌, ◌>>◌, ensure, or_fault}
 use Rattle.job_file.specs.Job.{job_at, job_of, job_position, tree_of}
-use Rattle.job_file.specs.KeyRules.{a_table, keys_rules, value_rules}
-use Rattle.job_file.specs.KeyValues.{table_at, tables_at}
-use Rattle.job_file.specs.Keys.{Entries, has_only}
+use Rattle.job_keys.specs.KeyRules.{a_table, keys_rules, value_rules}
+use Rattle.job_keys.specs.KeyValues.{table_at, tables_at}
+use Rattle.job_keys.specs.Keys.{Entries, has_only}
 use Rattle.job_file.specs.Laws.{AcceptsByRules, ReportsFirstBroken, rules_of, values_of}
-use Rattle.job_file.specs.Light.{next_light}
-use Rattle.job_file.specs.Pair.{next_pair}
+use Rattle.job_keys.specs.Light.{next_light}
+use Rattle.job_keys.specs.Pair.{next_pair}
 use Rattle.job_file.specs.JobRules.{head_keys, head_value, job_rules, job_value, part_keys}
-use Rattle.job_file.specs.PartRules.{dye_rules, dye_value, light_rules, light_value, pair_rules, pair_value}
-use Rattle.job_file.specs.Rules.{Rule, rule_at}
+use Rattle.job_file.specs.PartRules.{dye_rules, dye_value}
+use Rattle.job_keys.specs.PartRules.{light_rules, light_value, pair_rules, pair_value}
+use Rattle.job_keys.specs.Rules.{Rule, rule_at}
 use Rattle.job_file.specs.Top.{Inner, has_key, head, inner, job_keys, keys, needs_batch, takes_batch, version_of}
-use Rattle.job_file.proofs.Judged.{accepts, all_hold, done, each_read, ensure_is, first_broken, judge, refuses, then_done, then_next, then_read}
-use Rattle.job_file.proofs.KeysJudged.{file_is, name_is, table_if_any_is, tables_is, tables_or_none_is, whole_if_any_is, whole_or_is}
-use Rattle.job_file.proofs.PartsJudged.{batch_if_any, dye_after, light_after, pair_after}
+use Rattle.job_keys.proofs.Judged.{accepts, all_hold, done, each_read, ensure_is, first_broken, judge, refuses, then_done, then_next, then_read}
+use Rattle.job_keys.proofs.KeysJudged.{file_is, name_is, table_if_any_is, tables_is, tables_or_none_is, whole_if_any_is, whole_or_is}
+use Rattle.job_file.proofs.PartsJudged.{batch_if_any, dye_after}
+use Rattle.job_keys.proofs.PartsJudged.{light_after, pair_after}
 
 abbrev top_of : Members → Entries
 top_of m = record { position = job_position; members = m }
@@ -103,7 +105,7 @@ job_is rule m =
     (then_read _ _ _ _ _ _ (inner_is rule m)
     (then_read _ _ _ _ _ _ (each_read next_light light_rules light_value light_after [] (tables_at (codes "light") m))
     (then_read _ _ _ _ _ _ (each_read next_dye dye_rules dye_value dye_after [] (tables_at (codes "dye") m))
-    (then_read _ _ _ _ _ _ (each_read (next_pair dyes) (pair_rules dyes) pair_value (pair_after dyes) [] (tables_at (codes "pair") m))
+    (then_read _ _ _ _ _ _ (each_read (next_pair (has_dye dyes)) (pair_rules (has_dye dyes)) pair_value (pair_after (has_dye dyes)) [] (tables_at (codes "pair") m))
     (then_done _ _ _ _ _ (batch_if_any dyes (table_at (codes "batch") m)) refl))))))
 
 document_is : {B : Type 0} (o : Option Members) (f : Members → Result B JobFault) (rules : Members → List Rule) (value : Members → B) → ((m : Members) → f m ≡ judge (rules m) (value m))

@@ -1,42 +1,24 @@
--- Each part of a job is read by its rules.
+-- Dyes and the batch of a job are read by their rules.
 use Rattle.std.proofs.Common.{◌≡◌, ◌++◌, ◌+◌, ℕ, Option, Some, None, Ok, List, [], length, map, refl}
 use Rattle.std.specs.Prelude.{codes, option_map}
 use Rattle.std.proofs.lemmas.List.{length-map}
 use Rattle.toml.specs.Data.{Members}
 use Rattle.job_file.specs.declared.dye.JobDye.{JobDye}
-use Rattle.job_file.specs.declared.fault.JobRule.TheVariants.{BatchLength, DoubleDye, OutOfRange, SamePair, TooWide, UnknownDye, UnknownKey}
-use Rattle.job_file.specs.declared.fault.Position.{Position}
-use Rattle.job_file.specs.Arrays.{if_there}
+use Rattle.job_keys.specs.declared.fault.JobRule.TheVariants.{BatchLength, DoubleDye, OutOfRange, TooWide, UnknownKey}
+use Rattle.job_keys.specs.declared.fault.Position.{Position}
+use Rattle.job_keys.specs.Arrays.{if_there}
 use Rattle.job_file.specs.Batch.{batch, batch_of, batch_position}
 use Rattle.job_file.specs.Dye.{dye, next_dye}
 use Rattle.job_file.specs.Dyeing.{dyeing, next_dyeing}
-use Rattle.job_file.specs.KeyRules.{if_any, in_turn, keys_rules, table_rules, value_rules}
-use Rattle.job_file.specs.KeyValues.{tables_at}
-use Rattle.job_file.specs.Keys.{Entries}
-use Rattle.job_file.specs.Light.{light, next_light}
-use Rattle.job_file.specs.Pair.{next_pair, pair}
-use Rattle.job_file.specs.PartRules.{batch_keys, batch_rules, batch_value, dye_closing, dye_keys, dye_position, dye_rules, dye_value, dyeing_keys, dyeing_position, dyeing_rules, dyeing_value, light_keys, light_position, light_rules, light_value, pair_closing, pair_keys, pair_position, pair_rules, pair_value}
-use Rattle.job_file.proofs.Judged.{done, each_read, ensure_is, judge, then_done, then_next, then_read}
-use Rattle.job_file.proofs.KeysJudged.{file_is, name_is, steps_are, tables_is, whole_is, whole_or_is}
+use Rattle.job_keys.specs.KeyRules.{if_any, in_turn, keys_rules, table_rules, value_rules}
+use Rattle.job_keys.specs.KeyValues.{tables_at}
+use Rattle.job_keys.specs.Keys.{Entries}
+use Rattle.job_file.specs.PartRules.{batch_keys, batch_rules, batch_value, dye_closing, dye_keys, dye_position, dye_rules, dye_value, dyeing_keys, dyeing_position, dyeing_rules, dyeing_value}
+use Rattle.job_keys.proofs.Judged.{done, each_read, ensure_is, judge, then_done, then_next, then_read}
+use Rattle.job_keys.proofs.KeysJudged.{name_is, tables_is, whole_is, whole_or_is, wholes_are}
 
 abbrev at : Position → Members → Entries
 at position m = record { position = position; members = m }
-
-light_at : (position : Position) (m : Members) → light (at position m) ≡ judge (table_rules position light_keys m) (light_value m)
-unfolding light table_rules keys_rules light_keys light_value
-light_at position m =
-    let t = at position m in
-    then_next _ _ _ _ _ (ensure_is position UnknownKey _)
-    (then_read _ _ _ _ _ _ (file_is (codes "weights") t)
-    (then_read _ _ _ _ _ _ (whole_is (codes "tolerance") 0 100000 t)
-    (then_read _ _ _ _ _ _ (whole_or_is (codes "l10") 1 100 20 t)
-    (then_read _ _ _ _ _ _ (whole_or_is (codes "c10") 1 100 10 t)
-    (done _)))))
-
--- the next light, after those in `before`
-pub light_after : (before : List Members) (m : Members) → next_light (map light_value before) m ≡ judge (light_rules before m) (light_value m)
-unfolding light_rules
-light_after before m = rw length-map (light_at (light_position (length before + 1)) m)
 
 dyeing_at : (position : Position) (m : Members) → dyeing (at position m) ≡ judge (table_rules position dyeing_keys m) (dyeing_value m)
 unfolding dyeing table_rules keys_rules dyeing_keys dyeing_value
@@ -76,30 +58,13 @@ pub dye_after : (before : List Members) (m : Members) → next_dye (map dye_valu
 unfolding dye_rules
 dye_after before m = rw length-map (dye_at (map dye_value before) (length before + 1) m)
 
-pair_at : (dyes : List JobDye) (number : ℕ) (m : Members)
-    → pair dyes (at (pair_position number) m) ≡ judge (table_rules (pair_position number) pair_keys m ++ pair_closing (pair_position number) dyes (pair_value m)) (pair_value m)
-unfolding pair table_rules keys_rules value_rules pair_keys pair_value
-pair_at dyes number m =
-    let position = pair_position number in
-    let t = at position m in
-    then_next _ _ _ _ _ (ensure_is position UnknownKey _)
-    (then_read _ _ _ _ _ _ (name_is (codes "a") t)
-    (then_read _ _ _ _ _ _ (name_is (codes "b") t)
-    (then_next _ _ _ _ _ (ensure_is position UnknownDye _)
-    (then_next _ _ _ _ _ (ensure_is position SamePair _)
-    (done _)))))
-
-pub pair_after : (dyes : List JobDye) (before : List Members) (m : Members) → next_pair dyes (map pair_value before) m ≡ judge (pair_rules dyes before m) (pair_value m)
-unfolding pair_rules
-pair_after dyes before m = rw length-map (pair_at dyes (length before + 1) m)
-
 batch_is : (dyes : List JobDye) (m : Members) → batch_of dyes m ≡ judge (batch_rules dyes m) (batch_value m)
 unfolding batch batch_rules table_rules keys_rules value_rules batch_keys batch_value
 batch_is dyes m =
     let t = at batch_position m in
     then_next _ _ _ _ _ (ensure_is batch_position UnknownKey _)
     (then_read _ _ _ _ _ _ (name_is (codes "curve") t)
-    (then_read _ _ _ _ _ _ (steps_are (codes "steps") t)
+    (then_read _ _ _ _ _ _ (wholes_are (codes "steps") 1 12 0 4000 t)
     (then_next _ _ _ _ _ (ensure_is batch_position BatchLength _)
     (then_next _ _ _ _ _ (ensure_is batch_position OutOfRange _)
     (done _)))))

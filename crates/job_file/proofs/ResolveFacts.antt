@@ -7,8 +7,8 @@ use Rattle.std.proofs.lemmas.List.{length-map}
 use Rattle.std.proofs.lemmas.Slice.Eq.{bytes_eq-Decides}
 use Rattle.spectral_tables.specs.WeightTable.{WeightTable}
 use Rattle.job_file.specs.declared.batch.JobBatch.{JobBatch}
-use Rattle.job_file.specs.declared.fault.JobRule.{JobRule}
-use Rattle.job_file.specs.declared.fault.Position.{Position}
+use Rattle.job_keys.specs.declared.fault.JobRule.{JobRule}
+use Rattle.job_keys.specs.declared.fault.Position.{Position}
 use Rattle.job_file.specs.Job.{Values}
 use Rattle.job_file.specs.ResolvedKept.{IsResolved}
 use Rattle.std.specs.Str.{bytes_eq}
@@ -25,13 +25,13 @@ use Rattle.price_grid.specs.Grid.{IsRecipe}
 use Rattle.price_grid.specs.Limits.{LimitsView, IsPair as IsNumberPair}
 use Rattle.spectral_tables.specs.CurveBook.{Book}
 use Rattle.job_file.specs.declared.dye.JobDye.{JobDye}
-use Rattle.job_file.specs.declared.fault.JobFault.{JobFault}
-use Rattle.job_file.specs.declared.pair.JobPair.{JobPair}
-use Rattle.job_file.specs.Arrays.{each}
+use Rattle.job_keys.specs.declared.fault.JobFault.{JobFault}
+use Rattle.job_keys.specs.declared.pair.JobPair.{JobPair}
+use Rattle.job_keys.specs.Arrays.{each}
 use Rattle.job_file.specs.Batch.{IsBatch, are_within}
 use Rattle.job_file.specs.Dye.{IsDye, has_dye}
-use Rattle.job_file.specs.Faults.{◌>>=◌, ensure}
-use Rattle.job_file.specs.Pair.{IsPair}
+use Rattle.job_keys.specs.Faults.{◌>>=◌, ensure}
+use Rattle.job_keys.specs.Pair.{IsPair}
 use Rattle.job_file.specs.Resolve.{base_curve, cost_of_dye, limits_of, most_steps, next_calibrated, next_measured, number_of, numbers_of, up_to_most}
 
 -- a dye of the job, calibrated on a cloth
@@ -194,7 +194,7 @@ numbers_differ (x ∷ xs) a b unlike h g e =
 length-grid : (xs : List JobDye) → length (map cost_of_dye xs) ≡ length xs
 length-grid xs = length-map xs cost_of_dye
 
-pairs_fit : (xs : List JobDye) (ps : List JobPair) → All (IsPair xs) ps → All (IsNumberPair (map cost_of_dye xs)) (map (numbers_of xs) ps)
+pairs_fit : (xs : List JobDye) (ps : List JobPair) → All (IsPair (has_dye xs)) ps → All (IsNumberPair (map cost_of_dye xs)) (map (numbers_of xs) ps)
 pairs_fit xs [] each = λ k d lt. absurd (omega arith)
 pairs_fit xs (p ∷ ps) each =
     let here = each 0 p (omega arith) in
@@ -203,7 +203,7 @@ pairs_fit xs (p ∷ ps) each =
     let second = number_most xs p.b here.second in
     All-cons (IsNumberPair (map cost_of_dye xs)) (numbers_of xs p) (map (numbers_of xs) ps)
     ((number_least xs p.a, omega (arith, dyes, first)), (number_least xs p.b, omega (arith, dyes, second)), numbers_differ xs p.a p.b here.different here.first here.second)
-    (pairs_fit xs ps (All-tail (IsPair xs) p ps each))
+    (pairs_fit xs ps (All-tail (IsPair (has_dye xs)) p ps each))
 
 batch_fits : (xs : List JobDye) (batch : Option JobBatch) → IfSome batch (IsBatch xs) → IfSome batch (λ b. IsRecipe (map cost_of_dye xs) b.steps.items)
 batch_fits xs None h = h
@@ -225,7 +225,7 @@ held_where_not position rule true x e = cc
 held_where_not position rule false x e = refl
 
 pub kept_of : (j : Values) (substrate standard : List ℕ) (dyes : List DyeData) (grid : List DyeCost) (limits : LimitsView) (weights : List WeightTable) (batch : Option (List ℕ)) (count : ℕ)
-    → AllZip (IsCalibrated substrate) dyes j.dye → grid ≡ map cost_of_dye j.dye → limits ≡ limits_of j → length weights ≡ length j.light → All (IsPair j.dye) j.pair → IfSome j.batch (IsBatch j.dye)
+    → AllZip (IsCalibrated substrate) dyes j.dye → grid ≡ map cost_of_dye j.dye → limits ≡ limits_of j → length weights ≡ length j.light → All (IsPair (has_dye j.dye)) j.pair → IfSome j.batch (IsBatch j.dye)
     → is_too_strong (base_at (10 ^ 12) (base_curve substrate batch)) (up_to_most dyes limits.bath (most_steps j.dye)) ≡ false → length substrate ≡ count → length standard ≡ count → IfSome batch (λ c. length c ≡ count) → All (λ w. length w.weights ≡ count) weights
     → IsResolved (record { job = j; substrate = substrate; standard = standard; dyes = dyes; grid = grid; limits = limits; weights = weights; batch = batch })
 kept_of j substrate standard dyes grid limits weights batch count calibrated is limits_are lights pairs bath weak waves standard_waves of_batch of_weights =

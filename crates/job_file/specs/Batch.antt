@@ -1,16 +1,16 @@
 -- The batch that is to be corrected.
 use Rattle.std.specs.Prelude.{◌≡◌, ◌==◌, ◌&&◌, ℕ, Bool, nat_le, true, Result, Ok, List, [], ◌∷◌, length, codes}
 use Rattle.spectral_tables.specs.Name.{is_name}
-use Rattle.toml.specs.Data.{Members, as_integer}
-use Rattle.job_file.specs.declared.fault.JobFault.{JobFault}
-use Rattle.job_file.specs.declared.fault.JobRule.TheVariants.{BatchLength, OutOfRange}
-use Rattle.job_file.specs.declared.fault.Part.TheVariants.{Batch}
-use Rattle.job_file.specs.declared.fault.Position.{Position}
+use Rattle.toml.specs.Data.{Members}
+use Rattle.job_keys.specs.declared.fault.JobFault.{JobFault}
+use Rattle.job_keys.specs.declared.fault.JobRule.TheVariants.{BatchLength, OutOfRange}
+use Rattle.job_keys.specs.declared.fault.Part.TheVariants.{Batch}
+use Rattle.job_keys.specs.declared.fault.Position.{Position}
 use Rattle.job_file.specs.declared.batch.JobBatch.{JobBatch}
 use Rattle.job_file.specs.declared.dye.JobDye.{JobDye}
-use Rattle.job_file.specs.Arrays.{array_in, naturals_after}
-use Rattle.job_file.specs.Faults.{◌>>=◌, ◌>>◌, ensure, or_fault}
-use Rattle.job_file.specs.Keys.{Entries, name, only_keys, required}
+use Rattle.job_keys.specs.Arrays.{wholes}
+use Rattle.job_keys.specs.Faults.{◌>>=◌, ◌>>◌, ensure}
+use Rattle.job_keys.specs.Keys.{Entries, name, only_keys}
 
 -- no dye has a number of steps above its `most`; a number without a dye passes, and so does a dye
 -- without a number
@@ -19,19 +19,12 @@ are_within [] steps = true
 are_within (d ∷ dyes) [] = true
 are_within (d ∷ dyes) (n ∷ steps) = nat_le n d.most && are_within dyes steps
 
--- the numbers of steps of a required key, each 0 to 4,000
-unfoldable pub numbers_of_steps : List ℕ → Entries → Result (List ℕ) JobFault
-numbers_of_steps key t = do
-  value ← required key t
-  numbers ← array_in as_integer 1 12 t.position value
-  or_fault t.position OutOfRange (naturals_after 0 4000 [] numbers)
-
 -- its keys: the name of its curve, and the steps of each dye that are in the bath
 unfoldable pub batch : List JobDye → Entries → Result JobBatch JobFault
 batch dyes t = do
   only_keys (codes "curve" ∷ codes "steps" ∷ []) t
   curve ← name (codes "curve") t
-  steps ← numbers_of_steps (codes "steps") t
+  steps ← wholes (codes "steps") 1 12 0 4000 t
   ensure t.position BatchLength (length steps == length dyes)
   ensure t.position OutOfRange (are_within dyes steps)
   Ok (record { curve = curve; steps = record { items = steps } })

@@ -1,21 +1,22 @@
 -- A dye of a job, and its dyeings.
 use Rattle.std.specs.Prelude.{◌≡◌, ◌≤◌, ◌*◌, ◌+◌, ◌^◌, ℕ, Bool, not, nat_le, true, false, Result, Ok, List, [], ◌∷◌, All, length, codes}
-use Rattle.std.specs.List.{AllPairs, list_any}
+use Rattle.std.specs.List.{AllPairs}
 use Rattle.std.specs.Str.{bytes_eq}
 use Rattle.spectral_tables.specs.Name.{is_name}
 use Rattle.toml.specs.Data.{Members}
-use Rattle.job_file.specs.declared.fault.JobFault.{JobFault}
-use Rattle.job_file.specs.declared.fault.JobRule.TheVariants.{DoubleDye, OutOfRange, TooWide}
-use Rattle.job_file.specs.declared.fault.Part.TheVariants.{Dye}
+use Rattle.job_keys.specs.declared.fault.JobFault.{JobFault}
+use Rattle.job_keys.specs.declared.fault.JobRule.TheVariants.{DoubleDye, OutOfRange, TooWide}
+use Rattle.job_keys.specs.declared.fault.Part.TheVariants.{Dye}
 use Rattle.job_file.specs.declared.dye.JobDye.{JobDye}
-use Rattle.job_file.specs.Arrays.{each, tables}
+use Rattle.job_keys.specs.Arrays.{each, tables}
 use Rattle.job_file.specs.Dyeing.{IsDyeing, next_dyeing}
-use Rattle.job_file.specs.Faults.{◌>>=◌, ◌>>◌, ensure}
-use Rattle.job_file.specs.Keys.{Entries, name, only_keys, whole, whole_or}
+use Rattle.job_keys.specs.Faults.{◌>>=◌, ◌>>◌, ensure}
+use Rattle.job_keys.specs.Names.{has_named}
+use Rattle.job_keys.specs.Keys.{Entries, name, only_keys, whole, whole_or}
 
 -- some dye has the name
 abbrev pub has_dye : List JobDye → List ℕ → Bool
-has_dye dyes text = list_any (λ d. bytes_eq d.name text) dyes
+has_dye = has_named (λ d. d.name)
 
 -- its keys: the name, the price of a unit and the fee, the units of a step, the least and the most
 -- steps, and the dyeings. The least is not above the most, the most steps weigh at most 20,000

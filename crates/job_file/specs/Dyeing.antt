@@ -2,11 +2,11 @@
 use Rattle.std.specs.Prelude.{◌≡◌, ◌≤◌, ◌+◌, ℕ, true, Result, Ok, List, [], ◌∷◌, length, codes}
 use Rattle.spectral_tables.specs.Name.{is_name}
 use Rattle.toml.specs.Data.{Members}
-use Rattle.job_file.specs.declared.fault.JobFault.{JobFault}
-use Rattle.job_file.specs.declared.fault.Part.TheVariants.{Dyeing}
+use Rattle.job_keys.specs.declared.fault.JobFault.{JobFault}
+use Rattle.job_keys.specs.declared.fault.Part.TheVariants.{Dyeing}
 use Rattle.job_file.specs.declared.dyeing.JobDyeing.{JobDyeing}
-use Rattle.job_file.specs.Faults.{◌>>=◌, ◌>>◌}
-use Rattle.job_file.specs.Keys.{Entries, name, only_keys, whole}
+use Rattle.job_keys.specs.Faults.{◌>>=◌, ◌>>◌}
+use Rattle.job_keys.specs.Keys.{Entries, name, only_keys, whole}
 
 -- its keys: the units of dye on the cloth, and the name of its curve
 unfoldable pub dyeing : Entries → Result JobDyeing JobFault

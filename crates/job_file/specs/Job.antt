@@ -5,21 +5,21 @@ use Rattle.toml.specs.Data.{Members}
 use Rattle.toml.specs.Parse.{parse_document}
 use Rattle.job_file.specs.declared.batch.JobBatch.{JobBatch}
 use Rattle.job_file.specs.declared.dye.JobDye.{JobDye}
-use Rattle.job_file.specs.declared.fault.JobFault.{JobFault}
-use Rattle.job_file.specs.declared.fault.JobRule.TheVariants.{NotToml}
-use Rattle.job_file.specs.declared.fault.Part.TheVariants.{Job}
-use Rattle.job_file.specs.declared.fault.Position.{Position}
-use Rattle.job_file.specs.declared.light.JobLight.{JobLight}
-use Rattle.job_file.specs.declared.pair.JobPair.{JobPair}
+use Rattle.job_keys.specs.declared.fault.JobFault.{JobFault}
+use Rattle.job_keys.specs.declared.fault.JobRule.TheVariants.{NotToml}
+use Rattle.job_keys.specs.declared.fault.Part.TheVariants.{Job}
+use Rattle.job_keys.specs.declared.fault.Position.{Position}
+use Rattle.job_keys.specs.declared.light.JobLight.{JobLight}
+use Rattle.job_keys.specs.declared.pair.JobPair.{JobPair}
 use Rattle.job_file.specs.declared.top.BatchRule.{BatchRule}
 use Rattle.job_file.specs.declared.top.Head.{Head}
-use Rattle.job_file.specs.Arrays.{each, if_there}
+use Rattle.job_keys.specs.Arrays.{each, if_there}
 use Rattle.job_file.specs.Batch.{batch_of}
-use Rattle.job_file.specs.Dye.{next_dye}
-use Rattle.job_file.specs.Faults.{◌>>=◌, ◌>>◌, or_fault}
-use Rattle.job_file.specs.Keys.{Entries}
-use Rattle.job_file.specs.Light.{next_light}
-use Rattle.job_file.specs.Pair.{next_pair}
+use Rattle.job_file.specs.Dye.{has_dye, next_dye}
+use Rattle.job_keys.specs.Faults.{◌>>=◌, ◌>>◌, or_fault}
+use Rattle.job_keys.specs.Keys.{Entries}
+use Rattle.job_keys.specs.Light.{next_light}
+use Rattle.job_keys.specs.Pair.{next_pair}
 use Rattle.job_file.specs.Top.{head, inner, keys}
 
 -- the values of a job
@@ -42,7 +42,7 @@ job_at rule t = do
   found ← inner rule t
   lights ← each next_light [] found.light
   dyes ← each next_dye [] found.dye
-  pairs ← each (next_pair dyes) [] found.pair
+  pairs ← each (next_pair (has_dye dyes)) [] found.pair
   bath ← if_there (batch_of dyes) found.batch
   Ok (record { head = top; light = lights; dye = dyes; pair = pairs; batch = bath })
 

@@ -1,15 +1,17 @@
 -- The rules of a whole job, and the values of its keys.
 use Rattle.std.specs.Prelude.{◌++◌, ◌||◌, not, is_some, List, [], ◌∷◌, map, codes, option_map}
 use Rattle.toml.specs.Data.{Members, get_member}
-use Rattle.job_file.specs.declared.fault.JobRule.TheVariants.{NotVersion1, UnknownKey}
+use Rattle.job_keys.specs.declared.fault.JobRule.TheVariants.{NotVersion1, UnknownKey}
 use Rattle.job_file.specs.declared.top.BatchRule.{BatchRule}
 use Rattle.job_file.specs.declared.top.Head.{Head}
 use Rattle.job_file.specs.Job.{Values, job_position}
-use Rattle.job_file.specs.KeyRules.{Key, a_file, a_name, a_table, a_whole, if_any, in_turn, keys_rules, may, must, some_tables}
-use Rattle.job_file.specs.KeyValues.{table_at, tables_at, text_at, whole_at, whole_if_any_at}
-use Rattle.job_file.specs.Keys.{has_only}
-use Rattle.job_file.specs.PartRules.{batch_rules, batch_value, dye_rules, dye_value, light_rules, light_value, pair_rules, pair_value}
-use Rattle.job_file.specs.Rules.{Rule, rule_at}
+use Rattle.job_file.specs.Dye.{has_dye}
+use Rattle.job_keys.specs.KeyRules.{Key, a_file, a_name, a_table, a_whole, if_any, in_turn, keys_rules, may, must, some_tables}
+use Rattle.job_keys.specs.KeyValues.{table_at, tables_at, text_at, whole_at, whole_if_any_at}
+use Rattle.job_keys.specs.Keys.{has_only}
+use Rattle.job_file.specs.PartRules.{batch_rules, batch_value, dye_rules, dye_value}
+use Rattle.job_keys.specs.PartRules.{light_rules, light_value, pair_rules, pair_value}
+use Rattle.job_keys.specs.Rules.{Rule, rule_at}
 use Rattle.job_file.specs.Top.{needs_batch, takes_batch, version_of}
 
 -- the keys of the texts and numbers of a job, without `version`
@@ -78,5 +80,5 @@ job_rules rule members =
     top_rules rule members
     ++ (in_turn light_rules [] (tables_at (codes "light") members)
     ++ (in_turn dye_rules [] (tables_at (codes "dye") members)
-    ++ (in_turn (pair_rules dyes) [] (tables_at (codes "pair") members)
+    ++ (in_turn (pair_rules (has_dye dyes)) [] (tables_at (codes "pair") members)
     ++ if_any (batch_rules dyes) (table_at (codes "batch") members))))

@@ -1,9 +1,9 @@
 -- What holds of the lights and of the dyes of every job.
 use Rattle.std.specs.Prelude.{◌≤◌, List, All, length}
 use Rattle.job_file.specs.declared.dye.JobDye.{JobDye}
-use Rattle.job_file.specs.declared.light.JobLight.{JobLight}
+use Rattle.job_keys.specs.declared.light.JobLight.{JobLight}
 use Rattle.job_file.specs.Dye.{IsDye, NamesDiffer}
-use Rattle.job_file.specs.Light.{IsLight}
+use Rattle.job_keys.specs.Light.{IsLight}
 
 -- one or two lights, each in its ranges
 pub record AreLights (lights : List JobLight) : Type 0 where

@@ -2,12 +2,12 @@
 use Rattle.std.specs.Prelude.{◌≡◌, ◌↔◌, ℕ, is_some, Ok, Err, List, ◌∷◌}
 use Rattle.std.specs.Option.{unwrap_or}
 use Rattle.toml.specs.Data.{Members, no_members}
-use Rattle.job_file.specs.declared.fault.JobFault.{JobFault}
-use Rattle.job_file.specs.declared.fault.JobRule.TheVariants.{NotToml}
+use Rattle.job_keys.specs.declared.fault.JobFault.{JobFault}
+use Rattle.job_keys.specs.declared.fault.JobRule.TheVariants.{NotToml}
 use Rattle.job_file.specs.declared.top.BatchRule.{BatchRule}
 use Rattle.job_file.specs.Job.{Values, job_of, job_position, tree_of}
 use Rattle.job_file.specs.JobRules.{job_rules, job_value}
-use Rattle.job_file.specs.Rules.{AllHold, IsFirstBroken, Rule, rule_at}
+use Rattle.job_keys.specs.Rules.{AllHold, IsFirstBroken, Rule, rule_at}
 
 -- the table that a text spells, and an empty one where the text is no TOML document
 abbrev pub table_of : List ℕ → Members

@@ -1,46 +1,17 @@
--- The rules of the parts of a job, and the values of their keys.
-use Rattle.std.specs.Prelude.{◌&&◌, ◌+◌, ◌*◌, ◌++◌, ◌==◌, ℕ, not, nat_le, List, [], ◌∷◌, length, map, codes}
-use Rattle.std.specs.Str.{bytes_eq}
+-- The rules of the dyes and of the batch of a job, and the values of their keys.
+use Rattle.std.specs.Prelude.{◌+◌, ◌*◌, ◌++◌, ◌==◌, ℕ, not, nat_le, List, [], ◌∷◌, length, map, codes}
 use Rattle.toml.specs.Data.{Members}
 use Rattle.job_file.specs.declared.batch.JobBatch.{JobBatch}
 use Rattle.job_file.specs.declared.dye.JobDye.{JobDye}
 use Rattle.job_file.specs.declared.dyeing.JobDyeing.{JobDyeing}
-use Rattle.job_file.specs.declared.fault.JobRule.TheVariants.{BatchLength, DoubleDye, OutOfRange, SamePair, TooWide, UnknownDye}
-use Rattle.job_file.specs.declared.fault.Part.TheVariants.{Dye, Dyeing, Light, Pair}
-use Rattle.job_file.specs.declared.fault.Position.{Position}
-use Rattle.job_file.specs.declared.light.JobLight.{JobLight}
-use Rattle.job_file.specs.declared.pair.JobPair.{JobPair}
+use Rattle.job_keys.specs.declared.fault.JobRule.TheVariants.{BatchLength, DoubleDye, OutOfRange, TooWide}
+use Rattle.job_keys.specs.declared.fault.Part.TheVariants.{Dye, Dyeing}
+use Rattle.job_keys.specs.declared.fault.Position.{Position}
 use Rattle.job_file.specs.Batch.{are_within, batch_position}
 use Rattle.job_file.specs.Dye.{has_dye}
-use Rattle.job_file.specs.KeyRules.{Key, a_file, a_name, a_whole, in_turn, may, must, some_tables, some_wholes, table_rules}
-use Rattle.job_file.specs.KeyValues.{tables_at, text_at, whole_at, wholes_at}
-use Rattle.job_file.specs.Rules.{Rule, rule_at}
-
--- ---- a light
-
-unfoldable pub light_keys : List Key
-light_keys =
-    must (codes "weights") a_file
-    ∷ must (codes "tolerance") (a_whole 0 100000)
-    ∷ may (codes "l10") (a_whole 1 100)
-    ∷ may (codes "c10") (a_whole 1 100)
-    ∷ []
-
--- l and c are 2:1 where they are absent
-unfoldable pub light_value : Members → JobLight
-light_value members = record {
-  weights = text_at (codes "weights") members;
-  tolerance = whole_at (codes "tolerance") 0 members;
-  l10 = whole_at (codes "l10") 20 members;
-  c10 = whole_at (codes "c10") 10 members;
-}
-
-abbrev pub light_position : ℕ → Position
-light_position number = record { part = Light; item = number; sub = 0 }
-
--- the rules of the next light, after those in `before`
-unfoldable pub light_rules : List Members → Members → List Rule
-light_rules before members = table_rules (light_position (length before + 1)) light_keys members
+use Rattle.job_keys.specs.KeyRules.{Key, a_name, a_whole, in_turn, may, must, some_tables, some_wholes, table_rules}
+use Rattle.job_keys.specs.KeyValues.{tables_at, text_at, whole_at, wholes_at}
+use Rattle.job_keys.specs.Rules.{Rule, rule_at}
 
 -- ---- a dyeing
 
@@ -101,29 +72,6 @@ dye_rules before members =
     table_rules (dye_position (length before + 1)) dye_keys members
     ++ in_turn (dyeing_rules (length before + 1)) [] (tables_at (codes "dyeing") members)
     ++ dye_closing (dye_position (length before + 1)) (map dye_value before) (dye_value members)
-
--- ---- a pair
-
-unfoldable pub pair_keys : List Key
-pair_keys = must (codes "a") a_name ∷ must (codes "b") a_name ∷ []
-
-unfoldable pub pair_value : Members → JobPair
-pair_value members = record { a = text_at (codes "a") members; b = text_at (codes "b") members }
-
-abbrev pub pair_position : ℕ → Position
-pair_position number = record { part = Pair; item = number; sub = 0 }
-
--- the closing rules of a pair: both are dyes of the job, and they are different
-abbrev pub pair_closing : Position → List JobDye → JobPair → List Rule
-pair_closing position dyes p =
-    rule_at position UnknownDye (has_dye dyes p.a && has_dye dyes p.b)
-    ∷ rule_at position SamePair (not (bytes_eq p.a p.b))
-    ∷ []
-
--- the rules of the next pair, after those in `before`
-unfoldable pub pair_rules : List JobDye → List Members → Members → List Rule
-pair_rules dyes before members =
-    table_rules (pair_position (length before + 1)) pair_keys members ++ pair_closing (pair_position (length before + 1)) dyes (pair_value members)
 
 -- ---- the batch
 

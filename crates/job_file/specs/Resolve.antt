@@ -13,14 +13,14 @@ use Rattle.spectral_tables.specs.CurveBook.{Book, curve_named}
 use Rattle.spectral_tables.specs.WeightTable.{WeightTable}
 use Rattle.job_file.specs.declared.dye.JobDye.{JobDye}
 use Rattle.job_file.specs.declared.dyeing.JobDyeing.{JobDyeing}
-use Rattle.job_file.specs.declared.fault.JobFault.{JobFault}
-use Rattle.job_file.specs.declared.fault.JobRule.TheVariants.{TooStrong, UnknownColumn}
-use Rattle.job_file.specs.declared.fault.Part.TheVariants.{Dyeing}
-use Rattle.job_file.specs.declared.fault.Position.{Position}
-use Rattle.job_file.specs.declared.pair.JobPair.{JobPair}
-use Rattle.job_file.specs.Arrays.{each, if_there}
+use Rattle.job_keys.specs.declared.fault.JobFault.{JobFault}
+use Rattle.job_keys.specs.declared.fault.JobRule.TheVariants.{TooStrong, UnknownColumn}
+use Rattle.job_keys.specs.declared.fault.Part.TheVariants.{Dyeing}
+use Rattle.job_keys.specs.declared.fault.Position.{Position}
+use Rattle.job_keys.specs.declared.pair.JobPair.{JobPair}
+use Rattle.job_keys.specs.Arrays.{each, if_there}
 use Rattle.job_file.specs.Batch.{batch_position}
-use Rattle.job_file.specs.Faults.{◌>>=◌, ◌>>◌, ensure, or_fault}
+use Rattle.job_keys.specs.Faults.{◌>>=◌, ◌>>◌, ensure, or_fault}
 use Rattle.job_file.specs.Job.{Values, job_position}
 use Rattle.fix_bounds.specs.Scales.{base_unit}
 

@@ -2,15 +2,15 @@
 use Rattle.std.specs.Prelude.{◌≡◌, ◌≤◌, ◌||◌, ◌^◌, ℕ, Bool, not, true, false, Option, IfSome, option_and_then, is_some, Result, Ok, List, [], ◌∷◌, codes}
 use Rattle.spectral_tables.specs.Name.{is_name}
 use Rattle.toml.specs.Data.{Members, as_integer, get_member}
-use Rattle.job_file.specs.declared.fault.JobFault.{JobFault}
-use Rattle.job_file.specs.declared.fault.JobRule.TheVariants.{MissingKey, NotVersion1, UnknownKey}
+use Rattle.job_keys.specs.declared.fault.JobFault.{JobFault}
+use Rattle.job_keys.specs.declared.fault.JobRule.TheVariants.{MissingKey, NotVersion1, UnknownKey}
 use Rattle.job_file.specs.declared.top.BatchRule.{BatchRule}
 use Rattle.job_file.specs.declared.top.BatchRule.TheVariants.{Either, With, Without}
 use Rattle.job_file.specs.declared.top.Head.{Head}
-use Rattle.job_file.specs.Arrays.{table_if_any, tables, tables_or_none}
-use Rattle.job_file.specs.Faults.{◌>>=◌, ◌>>◌, ensure, or_fault}
-use Rattle.job_file.specs.Keys.{Entries, file_text, name, natural_in, only_keys, whole_if_any, whole_or}
-use Rattle.job_file.specs.Texts.{is_file_text}
+use Rattle.job_keys.specs.Arrays.{table_if_any, tables, tables_or_none}
+use Rattle.job_keys.specs.Faults.{◌>>=◌, ◌>>◌, ensure, or_fault}
+use Rattle.job_keys.specs.Keys.{Entries, file_text, name, natural_in, only_keys, whole_if_any, whole_or}
+use Rattle.job_keys.specs.Texts.{is_file_text}
 
 -- a batch may be in the job
 abbrev pub takes_batch : BatchRule → Bool

@@ -3,17 +3,13 @@
 ghost use Rattle.std.specs.Prelude.{◌≡◌, ◌≤◌, IfOk, IfSome, [], length, option_map};
 ghost use Rattle.toml.specs.Data.{as_integer};
 ghost use Rattle.toml.specs.View.{items_view, table_view};
-ghost use Rattle.job_file.specs.Arrays.{all_after, if_there, naturals_after};
-ghost use Rattle.job_file.specs.Batch.{IsBatch, are_within, batch, batch_of, numbers_of_steps};
-ghost use Rattle.job_file.specs.Faults.{Gives, or_fault};
-ghost use Rattle.job_file.specs.Keys.{entries_of};
+ghost use Rattle.job_keys.specs.Arrays.{all_after, if_there, naturals_after, wholes};
+ghost use Rattle.job_file.specs.Batch.{IsBatch, are_within, batch, batch_of};
+ghost use Rattle.job_keys.specs.Faults.{Gives, or_fault};
+ghost use Rattle.job_keys.specs.Keys.{entries_of};
 
-use crate::arrays::count_in;
 use crate::dye::JobDye;
-use crate::fault::{JobError, JobRule, Part, Position};
-use crate::keys::natural_in;
-use crate::section::Section;
-use crate::text::Text;
+use job_keys::{JobError, JobRule, Part, Position, Section, Text, count_in, natural_in};
 use price_grid::Steps;
 use std::alloc::Global;
 use toml::{Table, Value};
@@ -60,9 +56,10 @@ fn steps_of(position: Position, numbers: &[i64]) -> Result<Steps, JobError>
 }
 
 /// The steps of a required key: one to twelve whole numbers, each 0 to 4,000.
-#[tactic(auto, unfolding(crate::specs::Batch::numbers_of_steps))]
+#[tactic(auto, unfolding(job_keys::specs::Arrays::wholes))]
 fn numbers_of_steps(alloc: Global, table: &Section, key: &str) -> Result<Steps, JobError>
-    ensures { Gives (λ s. s.items) result (numbers_of_steps key.now (entries_of table.now)) }
+    ensures { Gives (λ s. s.items) result
+        (wholes key.now 1 12 0 4000 (entries_of table.now)) }
 {
     let value = table.required(key)?;
     let items = value

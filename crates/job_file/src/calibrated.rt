@@ -3,16 +3,16 @@
 ghost use Rattle.std.specs.Prelude.{◌≡◌, ◌≤◌, All, IfOk, [], length};
 ghost use Rattle.ks_curves.specs.Dye.{IsDyeing as IsMeasured};
 ghost use Rattle.spectral_tables.specs.CurveBook.{wave_count};
-ghost use Rattle.job_file.specs.Arrays.{each};
+ghost use Rattle.job_keys.specs.Arrays.{each};
 ghost use Rattle.job_file.specs.Dye.{IsDye};
 ghost use Rattle.job_file.specs.Dyeing.{IsDyeing};
-ghost use Rattle.job_file.specs.Faults.{Gives};
+ghost use Rattle.job_keys.specs.Faults.{Gives};
 ghost use Rattle.job_file.specs.Resolve.{curve_of, next_calibrated, next_measured};
 
 use crate::dye::JobDye;
 use crate::dyeing::JobDyeing;
-use crate::fault::{JobError, JobRule, Part, Position};
 use arrayvec::ArrayVec;
+use job_keys::{JobError, JobRule, Part, Position};
 use ks_curves::{Calibration, Dye};
 use spectral_tables::{Curve, CurveBook};
 use std::alloc::Global;

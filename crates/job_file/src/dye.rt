@@ -2,16 +2,14 @@
 
 ghost use Rattle.std.specs.Prelude.{◌≡◌, ◌≤◌, All, IfOk, [], false, length, map};
 ghost use Rattle.toml.specs.View.{table_view};
-ghost use Rattle.job_file.specs.Arrays.{each};
+ghost use Rattle.job_keys.specs.Arrays.{each};
 ghost use Rattle.job_file.specs.Dye.{IsDye, NamesDiffer, dye, has_dye, next_dye};
-ghost use Rattle.job_file.specs.Faults.{Gives};
-ghost use Rattle.job_file.specs.Keys.{entries_of};
+ghost use Rattle.job_keys.specs.Faults.{Gives};
+ghost use Rattle.job_keys.specs.Keys.{entries_of};
 
 use crate::dyeing::{JobDyeing, dyeings};
-use crate::fault::{JobError, JobRule, Part, Position};
-use crate::section::Section;
-use crate::text::Text;
 use arrayvec::ArrayVec;
+use job_keys::{JobError, JobRule, Named, Part, Position, Section, Text, has_name};
 use std::alloc::Global;
 use toml::Table;
 
@@ -37,11 +35,12 @@ pub struct JobDye {
     pub dyeing: ArrayVec<JobDyeing, 8>,
 }
 
-/// Whether some dye has the name.
-pub(crate) fn has_dye(dyes: &[JobDye], name: &str) -> bool
-    ensures { result ≡ has_dye dyes.now name.now }
-{
-    dyes.iter().any(|dye| dye.name.as_str() == name)
+impl Named for JobDye {
+    ghost name_of = { λ d. d.name };
+
+    fn name(&self) -> &str {
+        self.name.as_str()
+    }
 }
 
 /// Reads a dye that comes after those in `before`.
@@ -66,7 +65,7 @@ fn dye(alloc: Global, before: &[JobDye], table: &Section) -> Result<JobDye, JobE
         .ensure(step * most <= 20_000, JobRule::TooWide)?;
     table
         .position
-        .ensure(!has_dye(before, name.as_str()), JobRule::DoubleDye)?;
+        .ensure(!has_name(before, name.as_str()), JobRule::DoubleDye)?;
     Ok(JobDye {
         name,
         price,

@@ -2,15 +2,13 @@
 
 ghost use Rattle.std.specs.Prelude.{◌≡◌, ◌≤◌, All, IfOk, List, [], length, map};
 ghost use Rattle.toml.specs.View.{table_view};
-ghost use Rattle.job_file.specs.Arrays.{each};
+ghost use Rattle.job_keys.specs.Arrays.{each};
 ghost use Rattle.job_file.specs.Dyeing.{IsDyeing, dyeing, next_dyeing};
-ghost use Rattle.job_file.specs.Faults.{Gives};
-ghost use Rattle.job_file.specs.Keys.{entries_of};
+ghost use Rattle.job_keys.specs.Faults.{Gives};
+ghost use Rattle.job_keys.specs.Keys.{entries_of};
 
-use crate::fault::{JobError, Part, Position};
-use crate::section::Section;
-use crate::text::Text;
 use arrayvec::ArrayVec;
+use job_keys::{JobError, Part, Position, Section, Text};
 use std::alloc::Global;
 use toml::Table;
 

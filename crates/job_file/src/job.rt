@@ -3,16 +3,15 @@
 ghost use Rattle.std.specs.Prelude.{◌≡◌, All, IfSome};
 ghost use Rattle.std.proofs.Props.{props};
 ghost use Rattle.job_file.specs.Batch.{IsBatch};
+ghost use Rattle.job_file.specs.Dye.{has_dye};
 ghost use Rattle.job_file.specs.Kept.{AreDyes, AreLights};
-ghost use Rattle.job_file.specs.Pair.{IsPair};
+ghost use Rattle.job_keys.specs.Pair.{IsPair};
 ghost use Rattle.job_file.specs.Top.{IsHead};
 
 use crate::batch::JobBatch;
 use crate::dye::JobDye;
-use crate::light::JobLight;
-use crate::pair::JobPair;
-use crate::text::Text;
 use arrayvec::ArrayVec;
+use job_keys::{JobLight, JobPair, Text};
 
 /// A job: the curves, the lights, the dyes and the limits for which a recipe is to be found.
 #[derive(Debug, Drop)]
@@ -58,6 +57,6 @@ pub struct Job {
     }) } by { Prim.hlevel props },
     pub ghost lights: { AreLights light.items } by { Prim.hlevel props },
     pub ghost dyes: { AreDyes dye.items } by { Prim.hlevel props },
-    pub ghost pairs: { All (IsPair dye.items) pair.items } by { Prim.hlevel props },
+    pub ghost pairs: { All (IsPair (has_dye dye.items)) pair.items } by { Prim.hlevel props },
     pub ghost bath: { IfSome batch (IsBatch dye.items) } by { Prim.hlevel props },
 }

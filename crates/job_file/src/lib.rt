@@ -2,37 +2,27 @@
 //! memory ran out.
 #![tactic(auto)]
 
-mod arrays;
 mod batch;
 mod calibrated;
 mod dye;
 mod dyeing;
-mod fault;
 mod job;
-mod keys;
 pub mod laws;
-mod light;
 mod limits;
 mod lists;
-mod pair;
 mod read;
 mod resolution;
 mod resolved;
-mod section;
 mod strength;
-mod text;
 mod top;
 
 pub use batch::JobBatch;
 pub use dye::JobDye;
 pub use dyeing::JobDyeing;
-pub use fault::{JobError, JobFault, JobRule, Part};
 pub use job::Job;
-pub use light::JobLight;
+pub use job_keys::{JobError, JobFault, JobLight, JobPair, JobRule, Part, Text};
 pub use lists::{DyeList, WeightsList};
-pub use pair::JobPair;
 pub use read::read_job;
 pub use resolution::resolve;
 pub use resolved::Resolved;
-pub use text::Text;
 pub use top::BatchRule;

@@ -10,8 +10,8 @@ ghost use Rattle.job_file.specs.Resolve.{cost_of_dye, limits_of, most_steps, num
 
 use crate::dye::JobDye;
 use crate::job::Job;
-use crate::pair::JobPair;
 use arrayvec::ArrayVec;
+use job_keys::JobPair;
 use price_grid::{DyeCost, Grid, Limits, Steps};
 
 /// What a dye costs, and how much of it may be weighed out.

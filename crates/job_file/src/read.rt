@@ -1,20 +1,21 @@
 //! Reading a job.
 
-ghost use Rattle.std.specs.Prelude.{◌≡◌, ◌≤◌, IfOk, length};
+ghost use Rattle.std.specs.Prelude.{◌≡◌, ◌≤◌, All, IfOk, [], length, map};
 ghost use Rattle.toml.specs.View.{table_view};
-ghost use Rattle.job_file.specs.Faults.{Gives, or_fault};
+ghost use Rattle.job_keys.specs.Arrays.{each};
+ghost use Rattle.job_keys.specs.Faults.{Gives, or_fault};
+ghost use Rattle.job_file.specs.Dye.{has_dye};
 ghost use Rattle.job_file.specs.Job.{job_at, job_of, job_position, tree_of};
 ghost use Rattle.job_file.specs.JobView.{job_view};
-ghost use Rattle.job_file.specs.Keys.{entries_of};
+ghost use Rattle.job_keys.specs.Keys.{entries_of};
+ghost use Rattle.job_keys.specs.Pair.{IsPair, next_pair};
 
 use crate::batch::batch_of;
-use crate::dye::dyes;
-use crate::fault::{JobError, JobRule, Part, Position};
+use crate::dye::{JobDye, dyes};
 use crate::job::Job;
-use crate::light::lights;
-use crate::pair::pairs;
-use crate::section::Section;
 use crate::top::{BatchRule, find_inner, keys, read_head};
+use arrayvec::ArrayVec;
+use job_keys::{JobError, JobPair, JobRule, Part, Position, Section, lights, pairs};
 use std::alloc::Global;
 use toml::{Table, table_from_slice};
 
@@ -40,6 +41,20 @@ fn document(alloc: Global, bytes: &[u8]) -> Result<Table, JobError>
     }
 }
 
+/// Reads the pairs of these dyes in order.
+fn pairs_of(
+    alloc: Global,
+    dyes: &[JobDye],
+    tables: &[&Table],
+) -> Result<ArrayVec<JobPair, 66>, JobError>
+    requires { length tables.now ≤ 66 }
+    ensures is { Gives (λ v. v.items) result
+        (each (next_pair (has_dye dyes.now)) [] (map (λ t. table_view t.now) tables.now)) }
+    ensures names { IfOk result (λ v. All (IsPair (has_dye dyes.now)) v.items) }
+{
+    pairs(alloc, dyes, tables)
+}
+
 /// Reads the table of a whole job.
 #[tactic(auto, unfolding(crate::specs::Job::job_at))]
 fn job(alloc: Global, rule: BatchRule, table: &Section) -> Result<Job, JobError>
@@ -50,7 +65,7 @@ fn job(alloc: Global, rule: BatchRule, table: &Section) -> Result<Job, JobError>
     let found = find_inner(alloc, rule, table)?;
     let light = lights(alloc, &found.light)?;
     let dye = dyes(alloc, &found.dye)?;
-    let pair = pairs(alloc, dye.as_slice(), &found.pair)?;
+    let pair = pairs_of(alloc, dye.as_slice(), &found.pair)?;
     let batch = batch_of(alloc, dye.as_slice(), found.batch)?;
     Ok(Job {
         version: 1,

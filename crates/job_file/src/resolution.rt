@@ -2,22 +2,22 @@
 
 ghost use Rattle.std.specs.Prelude.{◌≡◌, IfOk, IfSome, All, length, vec_len};
 ghost use Rattle.spectral_tables.specs.CurveBook.{wave_count};
-ghost use Rattle.job_file.specs.Arrays.{if_there};
+ghost use Rattle.job_keys.specs.Arrays.{if_there};
 ghost use Rattle.job_file.specs.Batch.{batch_position};
-ghost use Rattle.job_file.specs.Faults.{Gives};
+ghost use Rattle.job_keys.specs.Faults.{Gives};
 ghost use Rattle.job_file.specs.JobView.{job_view};
 ghost use Rattle.job_file.specs.Resolve.{base_curve, curve_of, resolved_job};
 ghost use Rattle.job_file.specs.ResolvedView.{resolved_view};
 
 use crate::batch::JobBatch;
 use crate::calibrated::{calibrated, curve_of};
-use crate::fault::{JobError, JobRule, Part, Position};
 use crate::job::Job;
 use crate::limits::{grid_of, limits_of, most_steps};
 use crate::lists::{DyeList, WeightsList};
 use crate::read::JOB_POSITION;
 use crate::resolved::Resolved;
 use crate::strength::most_is_too_strong;
+use job_keys::{JobError, JobRule, Part, Position};
 use spectral_tables::{Curve, CurveBook, Weights};
 use std::alloc::Global;
 

@@ -2,15 +2,12 @@
 
 ghost use Rattle.std.specs.Prelude.{◌≡◌, ◌≤◌, IfOk, is_some, vec_len, option_map};
 ghost use Rattle.toml.specs.View.{table_view};
-ghost use Rattle.job_file.specs.Faults.{Gives};
-ghost use Rattle.job_file.specs.Keys.{entries_of, only_keys};
+ghost use Rattle.job_keys.specs.Faults.{Gives};
+ghost use Rattle.job_keys.specs.Keys.{entries_of, only_keys};
 ghost use Rattle.job_file.specs.Top.{IsHead, has_key, head, inner, job_keys, keys, needs_batch, takes_batch, version_of};
 ghost use Rattle.job_file.specs.TopView.{inner_view};
 
-use crate::fault::{JobError, JobRule};
-use crate::keys::natural_in;
-use crate::section::Section;
-use crate::text::Text;
+use job_keys::{JobError, JobRule, Section, Text, natural_in};
 use std::alloc::Global;
 use toml::Table;
 

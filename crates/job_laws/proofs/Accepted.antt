@@ -5,18 +5,18 @@ use Rattle.std.specs.List.{ends_with}
 use Rattle.std.proofs.lemmas.Bool.{and_parts, false≢true, leb-true}
 use Rattle.std.proofs.lemmas.List.Elements.{All-nil}
 use Rattle.toml.specs.Data.{Data, as_integer, as_str, get_member}
-use Rattle.job_file.specs.declared.fault.JobRule.TheVariants.{NotToml, OutOfRange, WrongKind}
-use Rattle.job_file.specs.declared.light.JobLight.{JobLight}
+use Rattle.job_keys.specs.declared.fault.JobRule.TheVariants.{NotToml, OutOfRange, WrongKind}
+use Rattle.job_keys.specs.declared.light.JobLight.{JobLight}
 use Rattle.job_file.specs.declared.top.BatchRule.{BatchRule}
-use Rattle.job_file.specs.Arrays.{each, if_there}
+use Rattle.job_keys.specs.Arrays.{each, if_there}
 use Rattle.job_file.specs.Batch.{batch_of}
-use Rattle.job_file.specs.Dye.{next_dye}
-use Rattle.job_file.specs.Faults.{or_fault}
+use Rattle.job_file.specs.Dye.{has_dye, next_dye}
+use Rattle.job_keys.specs.Faults.{or_fault}
 use Rattle.job_file.specs.Job.{Values, job_at, job_of, job_position, tree_of}
-use Rattle.job_file.specs.Keys.{Entries, file_text, name, natural_in, only_keys, or_else, required, whole, whole_if_any, whole_in, whole_or}
-use Rattle.job_file.specs.Light.{light, next_light}
-use Rattle.job_file.specs.Pair.{next_pair}
-use Rattle.job_file.specs.Texts.{is_file_text}
+use Rattle.job_keys.specs.Keys.{Entries, file_text, name, natural_in, only_keys, or_else, required, whole, whole_if_any, whole_in, whole_or}
+use Rattle.job_keys.specs.Light.{light, next_light}
+use Rattle.job_keys.specs.Pair.{next_pair}
+use Rattle.job_keys.specs.Texts.{is_file_text}
 use Rattle.job_file.specs.Top.{head, inner, keys}
 use Rattle.job_laws.specs.Laws.{BudgetFits, FilesAreNoCerts, IsNoCert}
 use Rattle.job_laws.proofs.Steps.{bind_ok, each_holds, err_ok, ok_same, then_ok}
@@ -108,7 +108,7 @@ table_fits rule t v h =
     let found = bind_ok (inner rule t) _ v top.2 in
     let lights = bind_ok (each next_light [] found.0.light) _ v found.2 in
     let dyes = bind_ok (each next_dye [] found.0.dye) _ v lights.2 in
-    let pairs = bind_ok (each (next_pair dyes.0) [] found.0.pair) _ v dyes.2 in
+    let pairs = bind_ok (each (next_pair (has_dye dyes.0)) [] found.0.pair) _ v dyes.2 in
     let bath = bind_ok (if_there (batch_of dyes.0) found.0.batch) _ v pairs.2 in
     let made : Values = record { head = top.0; light = lights.0; dye = dyes.0; pair = pairs.0; batch = bath.0 } in
     subst Fits (ok_same made v bath.2) (record {

@@ -2,13 +2,13 @@
 -- not.
 use Rattle.std.proofs.Common.{◌≡◌, Ok, refl}
 use Rattle.std.specs.Prelude.{◌||◌, codes, not}
-use Rattle.job_file.specs.declared.fault.JobRule.TheVariants.{MissingKey, NotToml, NotVersion1}
+use Rattle.job_keys.specs.declared.fault.JobRule.TheVariants.{MissingKey, NotToml, NotVersion1}
 use Rattle.job_file.specs.declared.top.BatchRule.{BatchRule}
 use Rattle.job_file.specs.declared.top.BatchRule.TheVariants.{Either}
-use Rattle.job_file.specs.Arrays.{tables, tables_or_none}
-use Rattle.job_file.specs.Faults.{ensure, or_fault}
+use Rattle.job_keys.specs.Arrays.{tables, tables_or_none}
+use Rattle.job_keys.specs.Faults.{ensure, or_fault}
 use Rattle.job_file.specs.Job.{job_at, job_of, job_position, tree_of}
-use Rattle.job_file.specs.Keys.{Entries, only_keys}
+use Rattle.job_keys.specs.Keys.{Entries, only_keys}
 use Rattle.job_file.specs.Top.{Inner, has_key, head, inner, job_keys, keys, needs_batch, version_of}
 use Rattle.job_laws.specs.Laws.{AcceptsEither, TableAcceptsEither}
 use Rattle.job_laws.proofs.Steps.{bind_first, bind_other, then_ok, then_other}

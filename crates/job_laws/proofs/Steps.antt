@@ -1,9 +1,9 @@
 -- The steps of a reading that was accepted.
 use Rattle.std.proofs.Common.{◌≡◌, Result, Ok, Err, List, [], ◌∷◌, ◌++◌, All, refl, sym, subst}
 use Rattle.std.proofs.lemmas.List.Elements.{All-push}
-use Rattle.job_file.specs.declared.fault.JobFault.{JobFault}
-use Rattle.job_file.specs.Arrays.{each}
-use Rattle.job_file.specs.Faults.{◌>>=◌, ◌>>◌}
+use Rattle.job_keys.specs.declared.fault.JobFault.{JobFault}
+use Rattle.job_keys.specs.Arrays.{each}
+use Rattle.job_keys.specs.Faults.{◌>>=◌, ◌>>◌}
 
 pub err_ok : {A : Type 0} (fault : JobFault) (x : A) → Err fault ≡ Ok x → ⊥
 err_ok fault x h = cc

@@ -4,7 +4,7 @@ use Rattle.std.specs.List.{ends_with}
 use Rattle.job_file.specs.declared.top.BatchRule.{BatchRule}
 use Rattle.job_file.specs.declared.top.BatchRule.TheVariants.{Either}
 use Rattle.job_file.specs.Job.{Values, job_at, job_of}
-use Rattle.job_file.specs.Keys.{Entries}
+use Rattle.job_keys.specs.Keys.{Entries}
 
 -- A text that is accepted as a job by at least one rule for its batch is also accepted, with the
 -- same values, where a batch may be there or not.

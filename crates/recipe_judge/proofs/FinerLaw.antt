@@ -10,7 +10,7 @@ use Rattle.interval_specs.proofs.Laws.{low_not_negative}
 use Rattle.interval_specs.proofs.Order.{mono_left, trans_ℤ}
 use Rattle.cmc_specs.specs.Cmc.{cmc_at}
 use Rattle.cmc_specs.proofs.Law.{cmc_encloses}
-use Rattle.job_file.specs.declared.light.JobLight.{JobLight}
+use Rattle.job_keys.specs.declared.light.JobLight.{JobLight}
 use Rattle.job_file.specs.Resolve.{base_curve}
 use Rattle.metamerism.proofs.DifferenceLaws.{encloses_finer}
 use Rattle.mix_model.specs.Base.{base_at}

@@ -8,7 +8,7 @@ use Rattle.interval_specs.specs.Ends.{Ends}
 use Rattle.interval_specs.specs.Encloses.{Encloses}
 use Rattle.box_specs.specs.Landscape.{IsLawful, Land, fails, first_from, is_admitted, is_shut, light_of, limit_of}
 use Rattle.box_specs.specs.Span.{IsBox, IsInside, IsWithin, Span, single}
-use Rattle.job_file.specs.declared.light.JobLight.{JobLight}
+use Rattle.job_keys.specs.declared.light.JobLight.{JobLight}
 use Rattle.job_file.specs.Resolve.{ResolvedJob}
 use Rattle.metamerism.specs.Verdicts.{verdict_at}
 use Rattle.price_grid.specs.declared.dye_cost.DyeCost.{DyeCost}

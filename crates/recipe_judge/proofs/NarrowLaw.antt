@@ -9,7 +9,7 @@ use Rattle.interval_specs.specs.Encloses.{Encloses}
 use Rattle.interval_specs.specs.Ranges.{UpTo}
 use Rattle.cmc_specs.specs.Cmc.{cmc_at}
 use Rattle.cmc_specs.proofs.Law.{cmc_encloses}
-use Rattle.job_file.specs.declared.light.JobLight.{JobLight}
+use Rattle.job_keys.specs.declared.light.JobLight.{JobLight}
 use Rattle.job_file.specs.Resolve.{ResolvedJob, base_curve}
 use Rattle.metamerism.proofs.DifferenceLaws.{encloses_narrower, waves_enclose_themselves}
 use Rattle.mix_model.specs.Base.{IsBase, base_at}

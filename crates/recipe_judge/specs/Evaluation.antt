@@ -4,7 +4,7 @@
 use Rattle.std.specs.Prelude.{ℕ, List, [], ◌∷◌, map}
 use Rattle.interval_specs.specs.Ends.{Ends}
 use Rattle.cmc_specs.specs.Cmc.{cmc_at}
-use Rattle.job_file.specs.declared.light.JobLight.{JobLight}
+use Rattle.job_keys.specs.declared.light.JobLight.{JobLight}
 use Rattle.job_file.specs.Resolve.{ResolvedJob, base_curve}
 use Rattle.metamerism.specs.Difference.{difference_under}
 use Rattle.mix_model.specs.Base.{base_at}

@@ -2,7 +2,7 @@
 
 ghost use Rattle.std.specs.Prelude.{◌≡◌, List, All, length};
 ghost use Rattle.interval_specs.specs.Ends.{Ends};
-ghost use Rattle.job_file.specs.Light.{IsLight};
+ghost use Rattle.job_keys.specs.Light.{IsLight};
 ghost use Rattle.metamerism.specs.Lights.{delta_under, deltas_under, places_of, tolerances_of};
 ghost use Rattle.metamerism.specs.Places.{light_places};
 ghost use Rattle.spectral_tables.specs.Spectrum.{spectrum_at};

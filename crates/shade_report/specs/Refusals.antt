@@ -4,11 +4,11 @@ use Rattle.spectral_tables.specs.declared.fault.TableFault.{TableFault}
 use Rattle.spectral_tables.specs.declared.fault.TableRule.{TableRule}
 use Rattle.spectral_tables.specs.declared.fault.TableRule.TheVariants as rule
 use Rattle.price_grid.specs.declared.limit.LimitNo.{LimitNo}
-use Rattle.job_file.specs.declared.fault.JobFault.{JobFault}
-use Rattle.job_file.specs.declared.fault.JobRule.{JobRule}
-use Rattle.job_file.specs.declared.fault.JobRule.TheVariants as job
-use Rattle.job_file.specs.declared.fault.Part.{Part}
-use Rattle.job_file.specs.declared.fault.Part.TheVariants as part
+use Rattle.job_keys.specs.declared.fault.JobFault.{JobFault}
+use Rattle.job_keys.specs.declared.fault.JobRule.{JobRule}
+use Rattle.job_keys.specs.declared.fault.JobRule.TheVariants as job
+use Rattle.job_keys.specs.declared.fault.Part.{Part}
+use Rattle.job_keys.specs.declared.fault.Part.TheVariants as part
 use Rattle.box_specs.specs.declared.certificate.CertRule.{CertRule}
 use Rattle.box_specs.specs.declared.certificate.CertRule.TheVariants as grammar
 use Rattle.box_specs.specs.declared.certificate.Why.{Why}

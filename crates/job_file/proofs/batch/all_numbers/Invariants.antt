@@ -1,7 +1,7 @@
 use Rattle.std.proofs.Common.{◌≡◌, [], drop}
 use Rattle.toml.specs.Data.{as_integer}
 use Rattle.toml.specs.View.{items_view}
-use Rattle.job_file.specs.Arrays.{all_after}
+use Rattle.job_keys.specs.Arrays.{all_after}
 use Rattle.job_file.proofs.batch.all_numbers.Given as goal
 
 abbrev pub invariant-loop-value : goal.invariant-loop-value

@@ -1,5 +1,5 @@
 use Rattle.std.proofs.Common.{◌≡◌, [], drop, length}
-use Rattle.job_file.specs.Arrays.{naturals_after}
+use Rattle.job_keys.specs.Arrays.{naturals_after}
 use Rattle.job_file.proofs.batch.steps_of.Given as goal
 
 abbrev pub invariant-loop-number : goal.invariant-loop-number

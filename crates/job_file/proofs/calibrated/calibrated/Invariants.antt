@@ -1,5 +1,5 @@
 use Rattle.std.proofs.Common.{◌≡◌, [], drop, length}
-use Rattle.job_file.specs.Arrays.{each}
+use Rattle.job_keys.specs.Arrays.{each}
 use Rattle.job_file.specs.Resolve.{next_calibrated}
 use Rattle.job_file.proofs.calibrated.calibrated.Given as goal
 

@@ -1,7 +1,7 @@
 use Rattle.std.proofs.Common.{◌≡◌, All, [], drop, length}
 use Rattle.ks_curves.specs.Dye.{IsDyeing as IsMeasured}
 use Rattle.spectral_tables.specs.CurveBook.{wave_count}
-use Rattle.job_file.specs.Arrays.{each}
+use Rattle.job_keys.specs.Arrays.{each}
 use Rattle.job_file.specs.Resolve.{next_measured}
 use Rattle.job_file.proofs.calibrated.measured.Given as goal
 

@@ -1,6 +1,6 @@
 use Rattle.std.proofs.Common.{◌≡◌, All, [], drop, length, map}
 use Rattle.toml.specs.View.{table_view}
-use Rattle.job_file.specs.Arrays.{each}
+use Rattle.job_keys.specs.Arrays.{each}
 use Rattle.job_file.specs.Dyeing.{IsDyeing, next_dyeing}
 use Rattle.job_file.proofs.dyeing.dyeings.Given as goal
 

@@ -1,6 +1,6 @@
 use Rattle.std.proofs.Common.{◌≡◌, ◌∙◌, ◌^◌, ◌≤◌, [], length, map, ap, sym, subst, Ok, arith}
 use Rattle.std.specs.List.{AllZip}
-use Rattle.job_file.specs.Arrays.{each}
+use Rattle.job_keys.specs.Arrays.{each}
 use Rattle.job_file.specs.JobView.{job_view}
 use Rattle.mix_model.specs.Base.{base_at}
 use Rattle.mix_model.specs.Strength.{is_too_strong}

@@ -1,5 +1,0 @@
-use Rattle.toml.proofs.Views.{table_get}
-use Rattle.job_file.proofs.section.Section.get.Goals as goal
-
-pub returns : goal.returns
-returns c = table_get _ c.args.key.now c.args.self.now.table.now.entries c.get.ensures.value

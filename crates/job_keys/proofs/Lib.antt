@@ -1,0 +1,4 @@
+mod TableFacts
+pub mod Judged
+pub mod KeysJudged
+pub mod PartsJudged

@@ -1,0 +1,12 @@
+pub mod Arrays
+pub mod Bytes
+pub mod Faults
+pub mod KeyRules
+pub mod KeyValues
+pub mod Keys
+pub mod Light
+pub mod Names
+pub mod Pair
+pub mod PartRules
+pub mod Rules
+pub mod Texts
