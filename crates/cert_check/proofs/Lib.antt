@@ -1,5 +1,6 @@
 pub mod Exact
 pub mod Faults
+pub mod Held
 pub mod Marking
 pub mod Order
 pub mod Parts

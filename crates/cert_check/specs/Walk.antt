@@ -32,7 +32,7 @@ halves_by b Undecided = None
 halves_by b Pass = None
 
 -- both halves before the boxes that wait
-abbrev pub with_halves : Option (Span × Span) → List Span → List Span
+abbrev pub with_halves : {X : Type 0} → Option (X × X) → List X → List X
 with_halves None waiting = waiting
 with_halves (Some halves) waiting = halves.0 ∷ halves.1 ∷ waiting
 
