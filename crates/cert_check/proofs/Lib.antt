@@ -5,6 +5,7 @@ pub mod Marking
 pub mod Order
 pub mod Parts
 pub mod Plain
+pub mod Recipes
 pub mod Results
 pub mod Sound
 pub mod Walks

@@ -1,14 +1,14 @@
 //! The lines of a tree, each against its box.
 
 ghost use Rattle.std.specs.Prelude.{◌≡◌, None};
-ghost use Rattle.box_specs.specs.declared.certificate.CertLine.TheVariants.{Pass, Split, Undecided};
+ghost use Rattle.box_specs.specs.declared.certificate.CertLine.TheVariants.{Split};
 ghost use Rattle.box_specs.specs.declared.certificate.Why.TheVariants.{BadSplit};
-ghost use Rattle.box_specs.specs.Landscape.{IsSound};
+ghost use Rattle.box_specs.specs.Landscape.{IsSound, judgement};
 ghost use Rattle.box_specs.specs.Span.{IsWithin, lists};
 ghost use Rattle.box_specs.specs.Validity.{is_dear, is_listed, line_fault, splits, unless};
 ghost use Rattle.cert_check.specs.Held.{HalvesAreHeld, both_boxes};
 ghost use Rattle.cert_check.specs.Ready.{CutoffIsWithin, IsReady, IsSorted};
-ghost use Rattle.cert_check.specs.Walk.{AtMostOne, halves_by};
+ghost use Rattle.cert_check.specs.Walk.{AtMostOne, halves_by, is_judged_as, recipe_fault};
 
 use crate::grid::is_before;
 use crate::list::index_of;
@@ -48,48 +48,34 @@ fn is_listed<L: Landscape>(land: &L, listed: &[Steps], steps: &Steps) -> bool
     index_of(land, listed, steps).is_some()
 }
 
-/// Why an undecided line does not hold.
-fn undecided_fault<L: Carrying>(
-    land: &L,
-    stance: &Stance,
-    whole: &Carried<L::Held>,
-    meter: &mut L::Meter,
-) -> Option<Why>
-    requires ready { IsReady (L.land land.now) stance.now.cutoff
-        (lists stance.now.matched.now) (lists stance.now.listed.now) }
-    requires held { L.stands land.now whole.now.held whole.now.part }
-    requires part { IsSound (L.land land.now) whole.now.part }
-    ensures is { result ≡ line_fault (L.land land.now) stance.now.cutoff
-        (lists stance.now.matched.now) (lists stance.now.listed.now) whole.now.part Undecided }
-    ensures judged { AtMostOne
-        (L.judged_count land.now meter.old) (L.judged_count land.now meter.new) }
-    ensures fresh { L.fresh_count land.now meter.new ≡ L.fresh_count land.now meter.old }
+/// Whether a recipe is judged as its line says.
+fn is_judged_as(line: CertLine, judged: Judged) -> bool
+    ensures { result ≡ is_judged_as line judged }
 {
-    if !whole.part.is_single() {
-        return Some(Why::NotPoint);
+    match line {
+        CertLine::Undecided => judged == Judged::Undecided,
+        CertLine::Pass => judged == Judged::Pass,
+        CertLine::Split { .. } => false,
+        CertLine::Limit(_) | CertLine::Fail(_) | CertLine::Dear => false,
     }
-    if land.judge_held(&whole.held, &whole.part, meter) != Judged::Undecided {
-        return Some(Why::NotUndecided);
-    }
-    unless(
-        is_listed(land, stance.listed, &whole.part.lo),
-        Why::WrongList,
-    )
 }
 
-/// Why a pass line does not hold.
-fn pass_fault<L: Carrying>(
+/// Why a line of one recipe does not hold: the box has several, the recipe is judged otherwise than
+/// the line says, or it is not listed.
+fn recipe_fault<L: Carrying>(
     land: &L,
-    stance: &Stance,
+    listed: &[Steps],
     whole: &Carried<L::Held>,
+    line: CertLine,
+    otherwise: Why,
     meter: &mut L::Meter,
 ) -> Option<Why>
-    requires ready { IsReady (L.land land.now) stance.now.cutoff
-        (lists stance.now.matched.now) (lists stance.now.listed.now) }
+    requires sorted { IsSorted (L.land land.now) (lists listed.now) }
     requires held { L.stands land.now whole.now.held whole.now.part }
     requires part { IsSound (L.land land.now) whole.now.part }
-    ensures is { result ≡ line_fault (L.land land.now) stance.now.cutoff
-        (lists stance.now.matched.now) (lists stance.now.listed.now) whole.now.part Pass }
+    ensures is { result ≡ recipe_fault
+        (is_judged_as line (judgement (L.land land.now) whole.now.part))
+        otherwise (lists listed.now) whole.now.part }
     ensures judged { AtMostOne
         (L.judged_count land.now meter.old) (L.judged_count land.now meter.new) }
     ensures fresh { L.fresh_count land.now meter.new ≡ L.fresh_count land.now meter.old }
@@ -97,13 +83,11 @@ fn pass_fault<L: Carrying>(
     if !whole.part.is_single() {
         return Some(Why::NotPoint);
     }
-    if land.judge_held(&whole.held, &whole.part, meter) != Judged::Pass {
-        return Some(Why::NotPassing);
+    let judged = land.judge_held(&whole.held, &whole.part, meter);
+    if !is_judged_as(line, judged) {
+        return Some(otherwise);
     }
-    unless(
-        is_listed(land, stance.matched, &whole.part.lo),
-        Why::WrongList,
-    )
+    unless(is_listed(land, listed, &whole.part.lo), Why::WrongList)
 }
 
 /// The halves of a box that is split after `mid` steps of the dye of this number, or why it cannot
@@ -160,7 +144,13 @@ pub(crate) fn check_line<L: Carrying>(
             unless(is_dear(land, &stance.cutoff, &whole.part), Why::NotDear),
             None,
         ),
-        CertLine::Undecided => (undecided_fault(land, stance, whole, meter), None),
-        CertLine::Pass => (pass_fault(land, stance, whole, meter), None),
+        CertLine::Undecided => {
+            let fault = recipe_fault(land, stance.listed, whole, line, Why::NotUndecided, meter);
+            (fault, None)
+        }
+        CertLine::Pass => {
+            let fault = recipe_fault(land, stance.matched, whole, line, Why::NotPassing, meter);
+            (fault, None)
+        }
     }
 }
