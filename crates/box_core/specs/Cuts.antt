@@ -1,5 +1,5 @@
 -- Boxes in two halves.
-use Rattle.std.specs.Prelude.{◌≡◌, ◌+◌}
+use Rattle.std.specs.Prelude.{◌≡◌, ◌+◌, Bool, if◌then◌else◌}
 use Rattle.box_core.specs.declared.part.Cut.{Cut}
 use Rattle.box_specs.specs.Span.{Span}
 use Rattle.box_specs.specs.Splits.{CutAt, lower_half, upper_half}
@@ -10,3 +10,7 @@ pub record CutsAt (b : Span) (at : CutAt) (cut : Cut) : Type 0 where
   pub mid : cut.mid ≡ at.mid
   pub left : cut.left ≡ lower_half b at
   pub right : cut.right ≡ upper_half b at
+
+-- the upper half of a box, or the lower one
+abbrev pub half_of : Bool → Span → CutAt → Span
+half_of upper b at = if upper then upper_half b at else lower_half b at

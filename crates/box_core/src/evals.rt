@@ -19,7 +19,23 @@ impl Evals {
         ensures { self.new
             ≡ record { judged = one_more self.old.judged; fresh = one_more self.old.fresh } }
     {
-        self.judged = self.judged.saturating_add(1);
+        self.count_judged();
+        self.count_fresh();
+    }
+
+    /// Counts a box that was evaluated afresh, and is still to be judged.
+    pub fn count_fresh(&mut self)
+        ensures { self.new
+            ≡ record { judged = self.old.judged; fresh = one_more self.old.fresh } }
+    {
         self.fresh = self.fresh.saturating_add(1);
+    }
+
+    /// Counts a box that was judged from what was held for it.
+    pub fn count_judged(&mut self)
+        ensures { self.new
+            ≡ record { judged = one_more self.old.judged; fresh = self.old.fresh } }
+    {
+        self.judged = self.judged.saturating_add(1);
     }
 }

@@ -15,7 +15,7 @@ use Rattle.box_specs.specs.Tree.{Spot, Tree, fork, leaf, root, spot_cmp, spot_of
 use Rattle.box_search.specs.State.{with_entry, without}
 use Rattle.box_search.specs.Nodes.{Arena, Shows, blank, node_at}
 use Rattle.box_search.specs.Trees.{IsSoundTree}
-use Rattle.box_search.specs.declared.frontier.Waiting.{Waiting}
+use Rattle.box_search.specs.Waiting.{WaitingBox}
 use Rattle.box_search.specs.declared.nodes.Node.{Node}
 use Rattle.box_search.proofs.Endings.{equal_itself}
 use Rattle.box_search.proofs.Judging.{entry_cases, spot_same, without_cases}
@@ -52,10 +52,10 @@ new_at : (nodes : List Node) → node_at (nodes ++ blank ∷ []) (length nodes) 
 new_at [] = refl
 new_at (n ∷ ns) = new_at ns
 
-module _ (l : Land) (m : Spot → Option Waiting) (g : Spot → Option CertLine) (ns : List Node) (a : Arena l m g ns) where
+module _ (l : Land) (m : Spot → Option WaitingBox) (g : Spot → Option CertLine) (ns : List Node) (a : Arena l m g ns) where
   -- one more box waits, at a place that was not known, with a new node
   module _ (q : Spot) (b : Span) (none : m q ≡ None) (unwritten : g q ≡ None) where
-    abbrev Fresh : Waiting
+    abbrev Fresh : WaitingBox
     Fresh = record { part = b; node = length ns }
 
     abbrev Ix : Spot → Option ℕ
@@ -100,8 +100,8 @@ module _ (l : Land) (m : Spot → Option Waiting) (g : Spot → Option CertLine)
           entry_other q z (length ns) a.ix x.0 ∙ a.known z x.1 k;
       waits = λ z w h. elim (entry_cases q Fresh m z w h) as (λ _. (Ix z ≡ Some w.node) × ((node_at (ns ++ blank ∷ []) w.node).line ≡ Dear)) [
         | inl x ↦ (
-          subst (λ y. Ix y ≡ Some w.node) x.0 (entry_here q (length ns) a.ix ∙ ap (λ (v : Waiting). Some v.node) x.1),
-          subst (λ (v : Waiting). (node_at (ns ++ blank ∷ []) v.node).line ≡ Dear) x.1 (ap (λ (n : Node). n.line) (new_at ns)),
+          subst (λ y. Ix y ≡ Some w.node) x.0 (entry_here q (length ns) a.ix ∙ ap (λ (v : WaitingBox). Some v.node) x.1),
+          subst (λ (v : WaitingBox). (node_at (ns ++ blank ∷ []) v.node).line ≡ Dear) x.1 (ap (λ (n : Node). n.line) (new_at ns)),
         )
         | inr x ↦
             let old = a.waits z w x in
@@ -122,7 +122,7 @@ module _ (l : Land) (m : Spot → Option Waiting) (g : Spot → Option CertLine)
           old.1 ∙ sym (still (spot_of l e (root v)) old.0 old.1) ∙ j
 
   -- a box that waits gets its line
-  module _ (q : Spot) (w : Waiting) (x : CertLine) (next : ℕ) (here : m q ≡ Some w) (unwritten : g q ≡ None)
+  module _ (q : Spot) (w : WaitingBox) (x : CertLine) (next : ℕ) (here : m q ≡ Some w) (unwritten : g q ≡ None)
       (own : (e : ℕ) (v : Tree) → IsPart l (tree_of l) 0 e v → is_final l (root v) ≡ false → q ≡ spot_of l e (root v)
       → (a.ix (spot_of l (e + 1) (lower_half (root v) (cut_of (root v)))) ≡ Some next) × (a.ix (spot_of l (e + 1) (upper_half (root v) (cut_of (root v)))) ≡ Some (next + 1))) where
     abbrev Written : Node
@@ -180,7 +180,7 @@ module _ (l : Land) (m : Spot → Option Waiting) (g : Spot → Option CertLine)
     line_is : (e : ℕ) (v : Tree) → IsPart l (tree_of l) 0 e v → (i : ℕ) → a.ix (spot_of l e (root v)) ≡ Some i
         → (node_at ns i).line ≡ (if is_judged l boxes e (root v) then line_of l (root v) else Dear)
     line_is e v p i h = go (is_judged l boxes e (root v)) (lined e v p) where
-      unread : (o : Option Waiting) → m (spot_of l e (root v)) ≡ o → g (spot_of l e (root v)) ≡ None → (node_at ns i).line ≡ Dear
+      unread : (o : Option WaitingBox) → m (spot_of l e (root v)) ≡ o → g (spot_of l e (root v)) ≡ None → (node_at ns i).line ≡ Dear
       unread None x k = absurd (none-some i (sym (a.known (spot_of l e (root v)) x k) ∙ h))
       unread (Some w) x k =
           let old = a.waits (spot_of l e (root v)) w x in

@@ -23,18 +23,20 @@ use Rattle.box_search.specs.declared.found.End.TheVariants.{Exhausted, Stopped}
 use Rattle.box_search.specs.State.{State, done_in, is_done, with_entry, without}
 use Rattle.box_search.specs.Frontier.{Going, IsAhead, IsFirst, halves_of, lower_of, waits_in, with_hand, with_upper}
 use Rattle.box_search.specs.Nodes.{Arena, blank, node_at, part_of, parts, write_at}
-use Rattle.box_search.specs.Places.{at, place, place_cmp}
+use Rattle.box_search.specs.Places.{at, place, place_cmp, spot}
 use Rattle.box_search.specs.declared.frontier.Frontier.{Frontier}
 use Rattle.box_search.specs.declared.frontier.Halves.{Halves}
-use Rattle.box_search.specs.declared.frontier.Waiting.{Waiting}
+use Rattle.box_search.specs.Waiting.{AllHeld, IsHeld, WaitingBox, box_of, seen, seen_hand}
 use Rattle.box_search.specs.declared.nodes.Node.{Node}
 use Rattle.box_search.specs.declared.place.Place.{Place}
+use Rattle.box_search.specs.declared.waiting.Waiting.{Waiting}
 use Rattle.box_search.proofs.Arenas.{added, apart, entry_here, entry_other, no_entry, shows, written}
 use Rattle.box_search.proofs.Endings.{equal_itself, first_state, floor_need, found_taken, lower_ahead, need_enough, next_rank, none_is, none_need, ranked, recipes_of, turned_fork, turned_leaf, two_places, with_halves}
 use Rattle.box_search.proofs.Judging.{corner_in_box, entry_cases, same_part, spot_same, step}
 use Rattle.std.proofs.lemmas.Option.{none-some}
 use Rattle.box_search.proofs.Orders.{precedes, precedes_swapped}
 use Rattle.box_search.proofs.Ranks.{at_sound, at_tree, whole}
+use Rattle.box_search.proofs.Seen.{ahead_seen, held_entry, seen_with_hand}
 use Rattle.box_search.proofs.Trees.{Halved, count_le, halved, whole_root}
 use Rattle.box_search.proofs.Turning.{open_final, passing_by, undecided_by}
 
@@ -50,17 +52,17 @@ line_count l j (fork b s t) k = go (line_count l j s (k + 1)) (line_count l j t 
   go low high false = omega arith
 
 -- a map of boxes with nodes, and the same without the nodes
-is_there : (o : Option Waiting) (b : Span) → part_of o ≡ Some b → is_some o ≡ true
+is_there : (o : Option WaitingBox) (b : Span) → part_of o ≡ Some b → is_some o ≡ true
 is_there None b h = absurd (none-some b h)
 is_there (Some w) b h = refl
 
-parts_entry : (q : Spot) (w : Waiting) (f : Spot → Option Waiting) → parts (with_entry q w f) ≡ with_entry q w.part (parts f)
+parts_entry : (q : Spot) (w : WaitingBox) (f : Spot → Option WaitingBox) → parts (with_entry q w f) ≡ with_entry q w.part (parts f)
 parts_entry q w f = λ i z. go z (is_eq (spot_cmp q z)) i where
   go : (z : Spot) (c : Bool) → part_of (if c then Some w else f z) ≡ (if c then Some w.part else part_of (f z))
   go z true = refl
   go z false = refl
 
-parts_without : (q : Spot) (f : Spot → Option Waiting) → parts (without q f) ≡ without q (parts f)
+parts_without : (q : Spot) (f : Spot → Option WaitingBox) → parts (without q f) ≡ without q (parts f)
 parts_without q f = λ i z. go z (is_eq (spot_cmp q z)) i where
   go : (z : Spot) (c : Bool) → part_of (if c then None else f z) ≡ (if c then None else part_of (f z))
   go z true = refl
@@ -76,7 +78,7 @@ module _ (l : Land) (d : ℕ) (b : Span) where
   upper_span open_ f = if open_ then with_entry (spot_of l (d + 1) (upper_half b (cut_of b))) (upper_half b (cut_of b)) f else f
 
 module _ (l : Land) (lawful : IsLawful l) where
-  pub found_of : (m : Spot → Option Waiting) (g : Spot → Option CertLine) (last : Option Spot) (n : ℕ) (matched listed : List (List ℕ)) (wanted budget : ℕ) (end : End) (nodes : List Node)
+  pub found_of : (m : Spot → Option WaitingBox) (g : Spot → Option CertLine) (last : Option Spot) (n : ℕ) (matched listed : List (List ℕ)) (wanted budget : ℕ) (end : End) (nodes : List Node)
       → State l (parts m) g last n matched listed → Arena l m g nodes → length nodes ≤ 2 * n + 1 → n ≡ min (need_for l wanted) budget → IsEnd l wanted budget end (length matched)
       → length matched ≤ wanted → IsShown l wanted budget end matched listed n nodes
   found_of m g last n matched listed wanted budget end nodes s a few e c most = record {
@@ -173,13 +175,13 @@ module _ (l : Land) (lawful : IsLawful l) where
       s.disjoint z q c b c.lo h here (corner_in_box l c sound_c) (subst (λ r. IsWithin r b) corner w)
 
   -- where a search stands once a box is judged, with the nodes
-  pub record Moved (hand : Option (Place × Waiting)) (m : Spot → Option Waiting) (g : Spot → Option CertLine) (nodes : List Node) (q : Spot) (n : ℕ) (matched listed : List (List ℕ)) : Type 0 where
+  pub record Moved (hand : Option (Place × WaitingBox)) (m : Spot → Option WaitingBox) (g : Spot → Option CertLine) (nodes : List Node) (q : Spot) (n : ℕ) (matched listed : List (List ℕ)) : Type 0 where
     pub state : State l (parts (with_hand hand m)) g (Some q) n matched listed
     pub ahead : IsAhead hand m
     pub arena : Arena l (with_hand hand m) g nodes
     pub few : length nodes ≤ 2 * n + 1
 
-  module _ (m : Spot → Option Waiting) (g : Spot → Option CertLine) (last : Option Spot) (n : ℕ) (matched listed : List (List ℕ)) (ns : List Node) (q : Spot) (w : Waiting)
+  module _ (m : Spot → Option WaitingBox) (g : Spot → Option CertLine) (last : Option Spot) (n : ℕ) (matched listed : List (List ℕ)) (ns : List Node) (q : Spot) (w : WaitingBox)
       (s : State l (parts m) g last n matched listed) (a : Arena l m g ns) (few : length ns ≤ 2 * n + 1) (here : m q ≡ Some w) where
     abbrev Part : Span
     Part = w.part
@@ -196,10 +198,10 @@ module _ (l : Land) (lawful : IsLawful l) where
     abbrev HighAt : Spot
     HighAt = spot_of l (q.depth + 1) High
 
-    abbrev WaitsLow : Waiting
+    abbrev WaitsLow : WaitingBox
     WaitsLow = record { part = Low; node = length ns }
 
-    abbrev WaitsHigh : Waiting
+    abbrev WaitsHigh : WaitingBox
     WaitsHigh = record { part = High; node = length ns + 1 }
 
     part_here : parts m q ≡ Some Part
@@ -219,7 +221,7 @@ module _ (l : Land) (lawful : IsLawful l) where
     -- a half is at a place of its own
     half_free : (b : Span) → IsSound l b → IsInside b Part → m (spot_of l (q.depth + 1) b) ≡ None
     half_free b sound inside = go (m (spot_of l (q.depth + 1) b)) refl where
-      go : (o : Option Waiting) → m (spot_of l (q.depth + 1) b) ≡ o → o ≡ None
+      go : (o : Option WaitingBox) → m (spot_of l (q.depth + 1) b) ≡ o → o ≡ None
       go None x = refl
       go (Some v) x = absurd (deeper b (sym (other_place (parts m) g last n matched listed q (spot_of l (q.depth + 1) b) Part v.part s part_here (ap part_of x)
           (within_inside b.lo b Part (corner_in_box l b sound) inside))))
@@ -240,7 +242,7 @@ module _ (l : Land) (lawful : IsLawful l) where
       places : is_eq (spot_cmp LowAt HighAt) ≡ false
       places = two_places l (q.depth + 1) Part sound_part final
 
-      abbrev M1 : Spot → Option Waiting
+      abbrev M1 : Spot → Option WaitingBox
       M1 = with_entry LowAt WaitsLow m
 
       one_more : length (ns ++ blank ∷ []) ≡ length ns + 1
@@ -336,7 +338,7 @@ module _ (l : Land) (lawful : IsLawful l) where
       spans : parts (with_entry LowAt WaitsLow (with_entry HighAt WaitsHigh (without q m))) ≡ with_entry LowAt Low (with_entry HighAt High (without q (parts m)))
       spans = parts_entry LowAt WaitsLow (with_entry HighAt WaitsHigh (without q m)) ∙ ap (λ f. with_entry LowAt Low f) upper_spans
 
-  pub goes_on : (m m1 m2 : Spot → Option Waiting) (hand : Option (Place × Waiting)) (g : Spot → Option CertLine) (last : Option Spot) (n : ℕ) (matched matched2 listed listed2 : List (List ℕ)) (ns ns2 : List Node) (q : Spot) (w : Waiting)
+  pub goes_on : (m m1 m2 : Spot → Option WaitingBox) (hand : Option (Place × WaitingBox)) (g : Spot → Option CertLine) (last : Option Spot) (n : ℕ) (matched matched2 listed listed2 : List (List ℕ)) (ns ns2 : List Node) (q : Spot) (w : WaitingBox)
       → State l (parts m) g last n matched listed → Arena l m g ns → length ns ≤ 2 * n + 1 → IsFirst m q w m1
       → hand ≡ lower_of (halves_by l q.depth w.part (length ns) (judgement l w.part)) → ((z : Spot) → m2 z ≡ with_upper (halves_by l q.depth w.part (length ns) (judgement l w.part)) m1 z)
       → ns2 ≡ write_at w.node (line_of l w.part) (is_open (judgement l w.part)) ns
@@ -344,7 +346,7 @@ module _ (l : Land) (lawful : IsLawful l) where
       → Moved hand m2 (with_entry q (line_of l w.part) g) ns2 q (n + 1) matched2 listed2
   goes_on m m1 m2 hand g last n matched matched2 listed listed2 ns ns2 q w s a few h lower upper nodes passed list =
       let g2 = with_entry q (line_of l w.part) g in
-      let H : Option Halves = halves_by l q.depth w.part (length ns) (judgement l w.part) in
+      let H : Option (Halves WaitingBox) = halves_by l q.depth w.part (length ns) (judgement l w.part) in
       let taken : m1 ≡ without q m = λ i z. h.taken z i in
       let up : m2 ≡ with_upper H (without q m) = (λ i z. upper z i) ∙ ap (λ f. with_upper H f) taken in
       let early = λ (z : Spot) (b : Span) (x : parts m z ≡ Some b). precedes_swapped z q ∙ h.least z (is_there (m z) b x) in
@@ -394,7 +396,7 @@ module _ (l : Land) (lawful : IsLawful l) where
       let a = s.waits q c here in
       subst (IsSound l) a.box (at_sound l lawful q.depth a.part a.at)
 
-module _ (l : Land) (lawful : IsLawful l) (m : Spot → Option Waiting) (g : Spot → Option CertLine) (last : Option Spot) (n : ℕ) (matched listed : List (List ℕ)) (wanted budget : ℕ) (nodes : List Node)
+module _ (l : Land) (lawful : IsLawful l) (m : Spot → Option WaitingBox) (g : Spot → Option CertLine) (last : Option Spot) (n : ℕ) (matched listed : List (List ℕ)) (wanted budget : ℕ) (nodes : List Node)
     (s : State l (parts m) g last n matched listed) (a : Arena l m g nodes) (few : length nodes ≤ 2 * n + 1) (fewer : length matched < wanted) where
   most : length matched ≤ wanted
   most = omega (arith, fewer)
@@ -406,7 +408,7 @@ module _ (l : Land) (lawful : IsLawful l) (m : Spot → Option Waiting) (g : Spo
       found_of l lawful m g last n matched listed wanted budget Exhausted nodes s a few (omega (arith, all, h))
       (omega (arith, all, h), none_is l lawful (parts m) g last n matched listed s wanted fewer bare) most
 
-  pub found_floor : (q : Spot) (w : Waiting) (others : Spot → Option Waiting) → IsFirst m q w others → n ≡ budget → IsShown l wanted budget (Stopped q.key.cost) matched listed n nodes
+  pub found_floor : (q : Spot) (w : WaitingBox) (others : Spot → Option WaitingBox) → IsFirst m q w others → n ≡ budget → IsShown l wanted budget (Stopped q.key.cost) matched listed n nodes
   found_floor q w others h e =
       let early = λ (z : Spot) (b : Span) (x : parts m z ≡ Some b). precedes_swapped z q ∙ h.least z (is_there (m z) b x) in
       let here = ap part_of h.waits in
@@ -438,8 +440,8 @@ first_arena l = record {
   waits = λ z w h. elim (entry_cases (spot_of l 0 l.top) (record { part = l.top; node = 0 }) (λ q. None) z w h) as
       (λ _. (with_entry (spot_of l 0 l.top) 0 (λ q. None) z ≡ Some w.node) × ((node_at (blank ∷ []) w.node).line ≡ Dear)) [
         | inl p ↦ (
-          subst (λ y. with_entry (spot_of l 0 l.top) 0 (λ q. None) y ≡ Some w.node) p.0 (entry_here (spot_of l 0 l.top) 0 (λ q. None) ∙ ap (λ (v : Waiting). Some v.node) p.1),
-          subst (λ (v : Waiting). (node_at (blank ∷ []) v.node).line ≡ Dear) p.1 refl,
+          subst (λ y. with_entry (spot_of l 0 l.top) 0 (λ q. None) y ≡ Some w.node) p.0 (entry_here (spot_of l 0 l.top) 0 (λ q. None) ∙ ap (λ (v : WaitingBox). Some v.node) p.1),
+          subst (λ (v : WaitingBox). (node_at (blank ∷ []) v.node).line ≡ Dear) p.1 refl,
         )
         | inr p ↦ absurd (none-some w p)
       ];
@@ -447,14 +449,32 @@ first_arena l = record {
   links = λ e v i f x h k j. absurd (none-some x h);
 }
 
-pub begins : (l : Land) → IsLawful l → (frontier : Frontier) (nodes : List Node) (matched listed : List (List ℕ))
-    → frontier.hand ≡ Some (place (spot_of l 0 l.top), record { part = l.top; node = 0 }) → ((z : Spot) → at frontier.map z ≡ None) → nodes ≡ blank ∷ [] → matched ≡ [] → listed ≡ []
-    → Going l frontier nodes 0 matched listed
-begins l lawful frontier nodes matched listed h empty k p e =
-    let First : Place × Waiting = (place (spot_of l 0 l.top), record { part = l.top; node = 0 }) in
-    let M : at frontier.map ≡ (λ z. None) = λ i z. empty z i in
-    let Waits : Spot → Option Waiting = with_hand (Some First) (λ z. None) in
-    let all : waits_in frontier ≡ Waits = λ i. with_hand (h i) (M i) in
+-- a search goes on from what waits, where that is known without what is held for it
+pub moves : {H : Type 0} (l : Land) (stands : H → Span → Type 0) (frontier : Frontier (Waiting H)) (g : Spot → Option CertLine) (nodes : List Node) (q : Spot) (n : ℕ) (matched listed : List (List ℕ))
+    → State l (parts (with_hand (seen_hand frontier.hand) (seen (at frontier.map)))) g (Some q) n matched listed → IsAhead (seen_hand frontier.hand) (seen (at frontier.map))
+    → Arena l (with_hand (seen_hand frontier.hand) (seen (at frontier.map))) g nodes → AllHeld stands (waits_in frontier) → length nodes ≤ 2 * n + 1 → Going l stands frontier nodes n matched listed
+moves l stands frontier g nodes q n matched listed state ahead arena held few =
+    let same = sym (seen_with_hand frontier.hand (at frontier.map)) in
+    record {
+      last = Some q;
+      g = g;
+      state = subst (λ m. State l (parts m) g (Some q) n matched listed) same state;
+      ordered = ahead_seen frontier.hand (at frontier.map) ahead;
+      arena = subst (λ m. Arena l m g nodes) same arena;
+      held = held;
+      few = few;
+    }
+
+pub begins : {H : Type 0} (l : Land) → IsLawful l → (stands : H → Span → Type 0) (frontier : Frontier (Waiting H)) (place_ : Place) (first : Waiting H) (nodes : List Node) (matched listed : List (List ℕ))
+    → frontier.hand ≡ Some (place_, first) → place_ ≡ place (spot_of l 0 l.top) → box_of first ≡ record { part = l.top; node = 0 } → IsHeld stands first → ((z : Spot) → at frontier.map z ≡ None)
+    → nodes ≡ blank ∷ [] → matched ≡ [] → listed ≡ [] → Going l stands frontier nodes 0 matched listed
+begins {H} l lawful stands frontier place_ first nodes matched listed h there whole held empty k p e =
+    let First : Place × WaitingBox = (place (spot_of l 0 l.top), record { part = l.top; node = 0 }) in
+    let None_ : Spot → Option (Waiting H) = λ z. None in
+    let M : at frontier.map ≡ None_ = λ i z. empty z i in
+    let Waits : Spot → Option WaitingBox = with_hand (Some First) (λ z. None) in
+    let raw : waits_in frontier ≡ with_hand (Some (place_, first)) None_ = λ i. with_hand (h i) (M i) in
+    let all : seen (waits_in frontier) ≡ Waits = ap seen raw ∙ seen_with_hand (Some (place_, first)) None_ ∙ (λ i. with_hand (Some (there i, whole i)) (λ z. None)) in
     record {
       last = None;
       g = λ z. None;
@@ -463,5 +483,6 @@ begins l lawful frontier nodes matched listed h empty k p e =
           (subst (λ f. State l f (λ z. None) None 0 [] []) (sym (parts_entry (spot_of l 0 l.top) (record { part = l.top; node = 0 }) (λ z. None))) (first_state l lawful))));
       ordered = subst (λ x. IsAhead x (at frontier.map)) (sym h) (λ z b x. absurd (none-some b (sym (empty z) ∙ x)));
       arena = subst (λ f. Arena l f (λ z. None) nodes) (sym all) (subst (λ ns. Arena l Waits (λ z. None) ns) (sym k) (first_arena l));
+      held = subst (AllHeld stands) (sym raw) (held_entry stands (spot place_) first None_ held (λ z w x. absurd (none-some w x)));
       few = omega (arith, ap length k);
     }

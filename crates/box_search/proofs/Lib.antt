@@ -10,6 +10,7 @@ mod Orders
 pub mod Ranks
 pub mod Results
 mod Rising
+mod Seen
 pub mod Trees
 mod Turning
 pub mod Valid

@@ -10,6 +10,7 @@ use Rattle.box_search.specs.Found.{IsFound, IsSmall}
 use Rattle.box_search.specs.Frontier.{halves_of}
 use Rattle.box_search.specs.declared.found.End.{End}
 use Rattle.box_search.specs.Nodes.{Shows}
+use Rattle.box_search.specs.Waiting.{WaitingBox}
 use Rattle.box_search.specs.declared.frontier.Halves.{Halves}
 use Rattle.box_search.specs.declared.nodes.Node.{Node}
 
@@ -35,7 +36,7 @@ is_passing Pass = true
 is_passing Undecided = false
 
 -- the halves of a box that is judged open
-abbrev pub halves_by : Land → ℕ → Span → ℕ → Judged → Option Halves
+abbrev pub halves_by : Land → ℕ → Span → ℕ → Judged → Option (Halves WaitingBox)
 halves_by l depth b next judged = if is_open judged then Some (halves_of l depth b next) else None
 
 -- recipes, with that of a box that is judged or without it

@@ -11,7 +11,8 @@ use Rattle.box_search.specs.Places.{at, place, spot}
 use Rattle.box_search.specs.Nodes.{Arena, parts}
 use Rattle.box_search.specs.declared.frontier.Frontier.{Frontier}
 use Rattle.box_search.specs.declared.frontier.Halves.{Halves}
-use Rattle.box_search.specs.declared.frontier.Waiting.{Waiting}
+use Rattle.box_search.specs.declared.waiting.Waiting.{Waiting}
+use Rattle.box_search.specs.Waiting.{AllHeld, WaitingBox, seen}
 use Rattle.box_search.specs.declared.nodes.Node.{Node}
 use Rattle.box_search.specs.declared.place.Place.{Place}
 
@@ -25,10 +26,10 @@ abbrev pub IsAhead : {X : Type 0} → Option (Place × X) → (Spot → Option X
 IsAhead None f = Unit {0}
 IsAhead {X} (Some hand) f = (z : Spot) (b : X) → f z ≡ Some b → is_lt (spot_cmp (spot hand.0) z) ≡ true
 
-abbrev pub waits_in : Frontier → Spot → Option Waiting
+abbrev pub waits_in : {X : Type 0} → Frontier X → Spot → Option X
 waits_in frontier = with_hand frontier.hand (at frontier.map)
 
-abbrev pub IsOrdered : Frontier → Type 0
+abbrev pub IsOrdered : {X : Type 0} → Frontier X → Type 0
 IsOrdered frontier = IsAhead frontier.hand (at frontier.map)
 
 -- a box that waits, before which none stands, and the others that wait
@@ -38,31 +39,32 @@ pub record IsFirst {X : Type 0} (f : Spot → Option X) (q : Spot) (b : X) (othe
   pub taken : (z : Spot) → others z ≡ without q f z
 
 -- the lower half is the next in hand
-abbrev pub lower_of : Option Halves → Option (Place × Waiting)
+abbrev pub lower_of : {X : Type 0} → Option (Halves X) → Option (Place × X)
 lower_of None = None
 lower_of (Some halves) = Some halves.lower
 
 -- the upper half joins the map
-abbrev pub with_upper : Option Halves → (Spot → Option Waiting) → Spot → Option Waiting
+abbrev pub with_upper : {X : Type 0} → Option (Halves X) → (Spot → Option X) → Spot → Option X
 with_upper None f = f
 with_upper (Some halves) f = with_entry (spot halves.upper.0) halves.upper.1 f
 
 module _ (l : Land) where
   -- a half of a box with its place and its node; the depth is that of the box, so the half is one
   -- deeper
-  abbrev pub half_at : ℕ → Span → ℕ → Place × Waiting
+  abbrev pub half_at : ℕ → Span → ℕ → Place × WaitingBox
   half_at depth b node = (place (spot_of l (depth + 1) b), record { part = b; node = node })
 
   -- the halves of a box, with nodes from this number on
-  abbrev pub halves_of : ℕ → Span → ℕ → Halves
+  abbrev pub halves_of : ℕ → Span → ℕ → Halves WaitingBox
   halves_of depth b next = record { lower = half_at depth (lower_half b (cut_of b)) next; upper = half_at depth (upper_half b (cut_of b)) (next + 1) }
 
--- the invariant of the loop of the search: a box in hand stands before the map, and the nodes have
--- the lines of the judged boxes
-pub record Going (l : Land) (frontier : Frontier) (nodes : List Node) (n : ℕ) (matched listed : List (List ℕ)) : Type 0 where
+-- the invariant of the loop of the search: a box in hand stands before the map, the nodes have the
+-- lines of the judged boxes, and what is held for each box that waits stands for it
+pub record Going {H : Type 0} (l : Land) (stands : H → Span → Type 0) (frontier : Frontier (Waiting H)) (nodes : List Node) (n : ℕ) (matched listed : List (List ℕ)) : Type 0 where
   pub last : Option Spot
   pub g : Spot → Option CertLine
-  pub state : State l (parts (waits_in frontier)) g last n matched listed
+  pub state : State l (parts (seen (waits_in frontier))) g last n matched listed
   pub ordered : IsOrdered frontier
-  pub arena : Arena l (waits_in frontier) g nodes
+  pub arena : Arena l (seen (waits_in frontier)) g nodes
+  pub held : AllHeld stands (waits_in frontier)
   pub few : length nodes ≤ 2 * n + 1

@@ -7,3 +7,4 @@ pub mod Places
 pub mod Result
 pub mod State
 pub mod Trees
+pub mod Waiting

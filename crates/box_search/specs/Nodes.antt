@@ -9,7 +9,7 @@ use Rattle.box_specs.specs.Splits.{cut_of, lower_half, upper_half}
 use Rattle.box_specs.specs.Span.{Span}
 use Rattle.box_specs.specs.Tree.{Spot, Tree, fork, leaf, root, spot_of, tree_of}
 use Rattle.box_search.specs.Trees.{IsSoundTree, is_split_line}
-use Rattle.box_search.specs.declared.frontier.Waiting.{Waiting}
+use Rattle.box_search.specs.Waiting.{WaitingBox}
 use Rattle.box_search.specs.declared.nodes.Node.{Node}
 
 -- the node of a box that is not judged
@@ -47,23 +47,23 @@ module _ (l : Land) (nodes : List Node) (judged : ℕ → Span → Bool) where
       (d : ℕ) × (t : Tree) × (ys : List CertLine) × IsSoundTree l t × Shows d t i × (xs ≡ lines l judged d t ++ ys) × Owes is ys
 
 -- the boxes that wait, without the numbers of their nodes
-abbrev pub part_of : Option Waiting → Option Span
+abbrev pub part_of : Option WaitingBox → Option Span
 part_of None = None
 part_of (Some waiting) = Some waiting.part
 
-abbrev pub parts : (Spot → Option Waiting) → Spot → Option Span
+abbrev pub parts : (Spot → Option WaitingBox) → Spot → Option Span
 parts m z = part_of (m z)
 
 -- How the nodes stand for the boxes, where m has those that wait and g the lines of those that are
 -- judged: each of them has a node of its own, and no other box has one; the nodes of the halves of
 -- a judged box follow each other
-pub record Arena (l : Land) (m : Spot → Option Waiting) (g : Spot → Option CertLine) (nodes : List Node) : Type 0 where
+pub record Arena (l : Land) (m : Spot → Option WaitingBox) (g : Spot → Option CertLine) (nodes : List Node) : Type 0 where
   pub ix : Spot → Option ℕ
   pub top : ix (spot_of l 0 l.top) ≡ Some 0
   pub one : (z y : Spot) (i : ℕ) → ix z ≡ Some i → ix y ≡ Some i → z ≡ y
   pub there : (z : Spot) (i : ℕ) → ix z ≡ Some i → i < length nodes
   pub known : (z : Spot) → m z ≡ None → g z ≡ None → ix z ≡ None
-  pub waits : (z : Spot) (w : Waiting) → m z ≡ Some w → (ix z ≡ Some w.node) × ((node_at nodes w.node).line ≡ Dear)
+  pub waits : (z : Spot) (w : WaitingBox) → m z ≡ Some w → (ix z ≡ Some w.node) × ((node_at nodes w.node).line ≡ Dear)
   pub kept : (z : Spot) (x : CertLine) → g z ≡ Some x → (i : ℕ) × (ix z ≡ Some i) × ((node_at nodes i).line ≡ x)
   pub links : (e : ℕ) (v : Tree) → IsPart l (tree_of l) 0 e v → is_final l (root v) ≡ false → (x : CertLine) → g (spot_of l e (root v)) ≡ Some x
       → (i : ℕ) → ix (spot_of l e (root v)) ≡ Some i

@@ -5,11 +5,12 @@ ghost use Rattle.box_search.specs.Answers.{IsShown};
 ghost use Rattle.box_specs.specs.Span.{lists};
 
 use crate::found::End;
-use crate::frontier::{Frontier, Waiting};
+use crate::frontier::Frontier;
 use crate::nodes::unjudged;
 use crate::place::place_of;
 use crate::turn::{Tally, turn};
-use box_core::Landscape;
+use crate::waiting::Waiting;
+use box_core::{Carrying, carried};
 use price_grid::Steps;
 use std::alloc::{AllocError, Global};
 
@@ -30,7 +31,7 @@ fn is_enough(matched: &[Steps], wanted: u32) -> bool
 
 /// Judges boxes in the order of their places until as many recipes pass as are wanted, no box is
 /// left, or the budget is spent.
-pub(crate) fn find<L: Landscape>(
+pub(crate) fn find<L: Carrying>(
     alloc: Global,
     land: &L,
     wanted: u32,
@@ -46,10 +47,17 @@ pub(crate) fn find<L: Landscape>(
         ≤ L.judged_count land.now meter.old + r.boxes) }
     ensures at_most { L.judged_count land.now meter.new
         ≤ L.judged_count land.now meter.old + budget }
+    ensures fresh { L.fresh_count land.now meter.new ≤ L.fresh_count land.now meter.old + 1 }
 {
-    let top = land.top();
-    let place = place_of(land, &top, 0);
-    let mut frontier = Frontier::of(alloc, place, Waiting { part: top, node: 0 });
+    // For its clause that the landscape is lawful.
+    let _top = land.top();
+    let whole = carried::top(land, meter);
+    let place = place_of(land, &whole.part, 0);
+    let first = Waiting {
+        carried: whole,
+        node: 0,
+    };
+    let mut frontier = Frontier::of(alloc, place, first);
     let nodes = vec![in alloc; unjudged()]?;
     let matched = Vec::new(alloc);
     let undecided = Vec::new(alloc);
@@ -77,7 +85,7 @@ pub(crate) fn find<L: Landscape>(
     }
     let end = match frontier.take() {
         None => End::Exhausted,
-        Some((place, _)) => End::Stopped(place.key.cost),
+        Some((place, _next)) => End::Stopped(place.key.cost),
     };
     Ok(Ended {
         end,

@@ -1,4 +1,4 @@
-//! The boxes that wait.
+//! What waits, in the order of places.
 
 ghost use Rattle.std.specs.Prelude.{◌≡◌, IfNone, IfSome, None, OnErr, OnOk, Some};
 ghost use Rattle.box_specs.specs.Tree.{Spot};
@@ -6,36 +6,28 @@ ghost use Rattle.box_search.specs.Frontier.{IsFirst, IsOrdered, lower_of, waits_
 ghost use Rattle.box_search.specs.Places.{at, spot};
 
 use crate::place::Place;
-use box_core::BoxR;
 use std::alloc::{AllocError, Global};
 use std::collections::BTreeMap;
 
-/// A box that waits, and the index of its node.
-#[derive(Drop)]
-pub(crate) struct Waiting {
-    pub part: BoxR,
-    pub node: u32,
-}
-
 /// The halves of a box, each at its place.
 #[derive(Drop)]
-pub(crate) struct Halves {
-    pub lower: (Place, Waiting),
-    pub upper: (Place, Waiting),
+pub(crate) struct Halves<X> {
+    pub lower: (Place, X),
+    pub upper: (Place, X),
 }
 
-/// The boxes that wait to be judged: those of a map, and the lower half of the box that was split
-/// last. The box that was split was the first that waited, and the lower half has its lower corner,
-/// so that half is the next; it is kept in hand and never enters the map.
+/// What waits to be judged: the boxes of a map, and the lower half of the box that was split last.
+/// The box that was split was the first that waited, and the lower half has its lower corner, so
+/// that half is the next; it is kept in hand and never enters the map.
 #[derive(Drop)]
-pub(crate) struct Frontier {
-    hand: Option<(Place, Waiting)>,
-    map: BTreeMap<Place, Waiting>,
+pub(crate) struct Frontier<X> {
+    hand: Option<(Place, X)>,
+    map: BTreeMap<Place, X>,
 }
 
-impl Frontier {
+impl<X: Drop> Frontier<X> {
     /// One box waits.
-    pub(crate) fn of(alloc: Global, place: Place, first: Waiting) -> Frontier
+    pub(crate) fn of(alloc: Global, place: Place, first: X) -> Frontier<X>
         ensures hand { result.hand ≡ Some (place, first) }
         ensures map { (z : Spot) → at result.map z ≡ None }
     {
@@ -46,7 +38,7 @@ impl Frontier {
     }
 
     /// Takes the first of the boxes that wait: the one in hand, or else the first of the map.
-    pub(crate) fn take(&mut self) -> Option<(Place, Waiting)>
+    pub(crate) fn take(&mut self) -> Option<(Place, X)>
         requires { IsOrdered self.old }
         ensures none { IfNone result ((z : Spot) → waits_in self.old z ≡ None) }
         ensures first { IfSome result (λ p. IsFirst (waits_in self.old)
@@ -61,7 +53,7 @@ impl Frontier {
 
     /// Adds the halves of the box that was taken last, if it is split: the upper one to the map,
     /// and the lower one in hand. Where there is no memory, the same boxes wait as before.
-    pub(crate) fn put_halves(&mut self, halves: Option<Halves>) -> Result<(), AllocError>
+    pub(crate) fn put_halves(&mut self, halves: Option<Halves<X>>) -> Result<(), AllocError>
         requires { self.old.hand ≡ None }
         ensures hand { OnOk result (self.new.hand ≡ lower_of halves) }
         ensures map { OnOk result ((z : Spot) → at self.new.map z

@@ -11,6 +11,7 @@ mod outcome;
 mod place;
 mod several;
 mod turn;
+mod waiting;
 
 pub use found::{End, Found};
 pub use outcome::{Outcome, search};

@@ -9,7 +9,7 @@ ghost use Rattle.box_search.specs.Result.{outcome_view, search_result};
 
 use crate::found::{End, Found};
 use crate::several::search_several;
-use box_core::{Cert, Claim, Landscape, LineList, StepsList};
+use box_core::{Carrying, Cert, Claim, LineList, StepsList};
 use price_grid::{Steps, copy_of};
 use std::alloc::{AllocError, Global};
 
@@ -36,8 +36,9 @@ fn claim_of(end: End, matched: &[Steps]) -> Claim
 
 /// Looks for the first recipe, by cost and then by steps, that is admitted and passes. At most
 /// `budget` boxes are judged, in the order of cost and then steps of their lower corners, and of
-/// two boxes with one lower corner the larger first.
-pub fn search<L: Landscape>(
+/// two boxes with one lower corner the larger first. At most one box is evaluated afresh: that of all
+/// recipes.
+pub fn search<L: Carrying>(
     alloc: Global,
     land: &L,
     budget: u32,
@@ -55,6 +56,7 @@ pub fn search<L: Landscape>(
         ≤ L.judged_count land.now meter.old + r.boxes) }
     ensures at_most { L.judged_count land.now meter.new
         ≤ L.judged_count land.now meter.old + budget }
+    ensures fresh { L.fresh_count land.now meter.new ≤ L.fresh_count land.now meter.old + 1 }
 {
     let found = search_several(alloc, land, 1, budget, meter)?;
     // For its clause that the landscape is lawful.

@@ -7,13 +7,14 @@ ghost use Rattle.box_specs.specs.Span.{lists};
 use crate::emit::emit;
 use crate::find::{Ended, find};
 use crate::found::Found;
-use box_core::Landscape;
+use box_core::Carrying;
 use std::alloc::{AllocError, Global};
 
 /// Looks for the first recipes, by cost and then by steps, that are admitted and pass, as many as
 /// are wanted. At most `budget` boxes are judged, in the order of cost and then steps of their lower
-/// corners, and of two boxes with one lower corner the larger first.
-pub fn search_several<L: Landscape>(
+/// corners, and of two boxes with one lower corner the larger first. At most one box is evaluated afresh: that of all
+/// recipes.
+pub fn search_several<L: Carrying>(
     alloc: Global,
     land: &L,
     wanted: u32,
@@ -32,6 +33,7 @@ pub fn search_several<L: Landscape>(
         ≤ L.judged_count land.now meter.old + r.boxes) }
     ensures at_most { L.judged_count land.now meter.new
         ≤ L.judged_count land.now meter.old + budget }
+    ensures fresh { L.fresh_count land.now meter.new ≤ L.fresh_count land.now meter.old + 1 }
 {
     let ended = find(alloc, land, wanted, budget, meter)?;
     let Ended { end, boxes, tally } = ended;

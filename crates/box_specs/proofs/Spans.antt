@@ -1,5 +1,5 @@
 -- Corners of boxes.
-use Rattle.std.proofs.Common.{◌≡◌, ℕ, List, [], ◌∷◌, refl, arith}
+use Rattle.std.proofs.Common.{◌≡◌, ℕ, List, [], ◌∷◌, refl, subst, arith}
 use Rattle.price_grid.specs.Grid.{IsUpTo}
 use Rattle.box_specs.specs.Span.{IsBox, IsInside, IsWithin, Span}
 
@@ -33,3 +33,7 @@ within_inside r b c w h = (up_to_trans c.lo b.lo r h.0 w.0, up_to_trans r b.hi c
 
 pub inside_itself : (b : Span) → IsInside b b
 inside_itself b = (up_to_itself b.lo, up_to_itself b.hi)
+
+-- of two equal boxes, each lies inside the other
+pub same_inside : (b c : Span) → b ≡ c → IsInside b c
+same_inside b c e = subst (λ d. IsInside b d) e (inside_itself b)

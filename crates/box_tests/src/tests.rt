@@ -1,5 +1,5 @@
 use crate::Ladder;
-use box_core::{BoxR, CertLine, Claim, Evals, Judged, Landscape, corner_key, halves, split};
+use box_core::{BoxR, CertLine, Claim, Evals, Fresh, Judged, Landscape, corner_key, halves, split};
 use box_search::{End, search, search_several};
 use price_grid::Steps;
 use std::test::Fail;
@@ -89,7 +89,7 @@ fn searches_a_ladder(rt: HostRuntime) -> Result<(), Fail> {
     };
     let mut meter = Evals::default();
     let found = search(rt.alloc(), &land, 100, &mut meter)?;
-    assert_eq!(rt; (found.boxes, meter.judged), (6, 6));
+    assert_eq!(rt; (found.boxes, meter.judged, meter.fresh), (6, 6, 1));
     assert!(rt; matches!(&found.cert.claim, Claim::Match(steps) if steps[0] == 3));
     assert_eq!(rt;
         found.cert.lines.as_slice(),
@@ -164,5 +164,25 @@ fn searches_for_several(rt: HostRuntime) -> Result<(), Fail> {
     let stopped = search_several(rt.alloc(), &land, 3, 6, &mut meter)?;
     assert_eq!(rt; (stopped.end, stopped.boxes), (End::Stopped(4), 6));
     assert_eq!(rt; (stopped.matched.len(), stopped.undecided.len()), (1, 0));
+    Ok(())
+}
+
+// A landscape of which nothing is carried is searched alike, and each of its boxes is judged afresh.
+#[test]
+fn searches_afresh(rt: HostRuntime) -> Result<(), Fail> {
+    let ladder = Ladder {
+        most: 4,
+        first: 3,
+        last: 4,
+    };
+    let land = Fresh { land: &ladder };
+    for (wanted, end, found) in [(2, End::Enough, 2), (3, End::Exhausted, 2)] {
+        let mut meter = Evals::default();
+        let several = search_several(rt.alloc(), &land, wanted, 100, &mut meter)?;
+        assert_eq!(rt; (several.end, several.boxes), (end, 7));
+        assert_eq!(rt; several.matched.len(), found);
+        assert_eq!(rt; (meter.judged, meter.fresh), (7, 7));
+        assert_eq!(rt; (land.judged(&meter), land.fresh(&meter)), (7, u64::MAX));
+    }
     Ok(())
 }

@@ -1,9 +1,11 @@
 pub mod Exact
 pub mod Faults
+pub mod Held
 pub mod Marking
 pub mod Order
 pub mod Parts
 pub mod Plain
+pub mod Recipes
 pub mod Results
 pub mod Sound
 pub mod Walks

@@ -12,7 +12,7 @@ use Rattle.cert_check.specs.Marks.{HasMarks, first_unmarked}
 use Rattle.cert_check.specs.Result.{checked_of, tree_failure}
 use Rattle.cert_check.proofs.Marking.{unmarked_is}
 
-pub is_none : (o : Option (ℕ × Why)) (b : Bool) → b ≡ is_some o → b ≡ false → o ≡ None
+pub is_none : {X : Type 0} (o : Option X) (b : Bool) → b ≡ is_some o → b ≡ false → o ≡ None
 is_none None b e h = refl
 is_none (Some x) b e h = absurd (false≢true (sym h ∙ e))
 

@@ -1,14 +1,17 @@
 -- The walk over the lines of a tree, one line at a time.
-use Rattle.std.specs.Prelude.{◌≡◌, ◌≤◌, ◌+◌, ℕ, zero, suc, Bool, Option, Some, None, List, [], ◌∷◌, if◌then◌else◌}
+use Rattle.std.specs.Prelude.{◌≡◌, ◌≤◌, ◌+◌, ℕ, zero, suc, Bool, true, false, Option, Some, None, List, [], ◌∷◌, if◌then◌else◌}
 use Rattle.std.specs.List.{AllByRecursion}
 use Rattle.box_specs.specs.declared.certificate.CertLine.{CertLine}
 use Rattle.box_specs.specs.declared.certificate.CertLine.TheVariants.{Dear, Fail, Limit, Pass, Split, Undecided}
 use Rattle.box_specs.specs.declared.certificate.Cutoff.{Cutoff}
 use Rattle.box_specs.specs.declared.certificate.Why.{Why}
+use Rattle.box_specs.specs.declared.certificate.Why.TheVariants.{NotPoint, WrongList}
+use Rattle.box_specs.specs.declared.judged.Judged.{Judged}
+use Rattle.box_specs.specs.declared.judged.Judged.TheVariants as judged
 use Rattle.box_specs.specs.Landscape.{IsSound, Land}
-use Rattle.box_specs.specs.Span.{Span}
+use Rattle.box_specs.specs.Span.{Span, is_single}
 use Rattle.box_specs.specs.Splits.{lower_half, upper_half}
-use Rattle.box_specs.specs.Validity.{after, is_pass_line, is_undecided_line, line_fault}
+use Rattle.box_specs.specs.Validity.{after, is_listed, is_pass_line, is_undecided_line, line_fault, unless}
 use Rattle.cert_check.specs.Marks.{MarksMore}
 
 -- why a line does not hold for the first of the waiting boxes
@@ -32,7 +35,7 @@ halves_by b Undecided = None
 halves_by b Pass = None
 
 -- both halves before the boxes that wait
-abbrev pub with_halves : Option (Span × Span) → List Span → List Span
+abbrev pub with_halves : {X : Type 0} → Option (X × X) → List X → List X
 with_halves None waiting = waiting
 with_halves (Some halves) waiting = halves.0 ∷ halves.1 ∷ waiting
 
@@ -43,6 +46,34 @@ recipe_if passes b = if passes then b.lo ∷ [] else []
 abbrev pub next_recipe : (CertLine → Bool) → List Span → CertLine → List (List ℕ)
 next_recipe test [] line = []
 next_recipe test (b ∷ waiting) line = recipe_if (test line) b
+
+abbrev pub is_undecided : Judged → Bool
+is_undecided (judged.Limit k) = false
+is_undecided (judged.Fail j) = false
+is_undecided judged.StillOpen = false
+is_undecided judged.Pass = false
+is_undecided judged.Undecided = true
+
+abbrev pub is_passing : Judged → Bool
+is_passing (judged.Limit k) = false
+is_passing (judged.Fail j) = false
+is_passing judged.StillOpen = false
+is_passing judged.Pass = true
+is_passing judged.Undecided = false
+
+-- a recipe is judged as its line says: undecided, or passing
+abbrev pub is_judged_as : CertLine → Judged → Bool
+is_judged_as Undecided j = is_undecided j
+is_judged_as Pass j = is_passing j
+is_judged_as (Split dye mid) j = false
+is_judged_as (Limit k) j = false
+is_judged_as (Fail k) j = false
+is_judged_as Dear j = false
+
+-- why a line of one recipe does not hold: the box has several, the recipe is judged otherwise, or it
+-- is not listed
+abbrev pub recipe_fault : Bool → Why → List (List ℕ) → Span → Option Why
+recipe_fault as_said otherwise listed b = unless (is_single b) NotPoint (unless as_said otherwise (unless (is_listed listed b.lo) WrongList None))
 
 -- at most one box was judged
 abbrev pub AtMostOne : (before now : ℕ) → Type 0

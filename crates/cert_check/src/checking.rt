@@ -13,11 +13,11 @@ use crate::list::list_failure;
 use crate::marks::{Marks, first_unmarked};
 use crate::stance::{Stance, cutoff_of, matched_of};
 use crate::walking::walk;
-use box_core::{Cert, CertLine, Checked, Cutoff, Landscape, Why};
+use box_core::{Carrying, Cert, CertLine, Checked, Cutoff, Why};
 use std::alloc::{AllocError, Global};
 
 /// The first failure of the lines of the tree, or else of a list against them.
-fn tree_failure<L: Landscape>(
+fn tree_failure<L: Carrying>(
     alloc: Global,
     land: &L,
     stance: &Stance,
@@ -33,6 +33,7 @@ fn tree_failure<L: Landscape>(
         (lists stance.now.matched.now) (lists stance.now.listed.now) lines.now) }
     ensures judged { L.judged_count land.now meter.new
         ≤ L.judged_count land.now meter.old + length lines.now }
+    ensures fresh { L.fresh_count land.now meter.new ≤ L.fresh_count land.now meter.old + 1 }
 {
     let mut marks = Marks {
         passed: vec![in alloc; false; count_of(stance.matched)]?,
@@ -50,7 +51,7 @@ fn tree_failure<L: Landscape>(
 }
 
 /// The first failure of a certificate.
-fn first_failure<L: Landscape>(
+fn first_failure<L: Carrying>(
     alloc: Global,
     land: &L,
     cert: &Cert,
@@ -60,6 +61,7 @@ fn first_failure<L: Landscape>(
         cert.now.claim cert.now.undecided cert.now.lines) }
     ensures judged { L.judged_count land.now meter.new
         ≤ L.judged_count land.now meter.old + length cert.now.lines }
+    ensures fresh { L.fresh_count land.now meter.new ≤ L.fresh_count land.now meter.old + 1 }
 {
     // For its clause that the landscape is lawful.
     let _top = land.top();
@@ -91,8 +93,9 @@ fn checked_of(failure: Option<(u32, Why)>) -> Checked
 }
 
 /// Checks a certificate. It is accepted exactly where it is valid, and then what it claims holds of
-/// the plain list of recipes. Else the result is the line of its first failure, and why it fails.
-pub fn check<L: Landscape>(
+/// the plain list of recipes. Else the result is the line of its first failure, and why it fails. At most one
+/// box is evaluated afresh: that of all recipes.
+pub fn check<L: Carrying>(
     alloc: Global,
     land: &L,
     cert: &Cert,
@@ -106,6 +109,7 @@ pub fn check<L: Landscape>(
         cert.now.undecided cert.now.claim) }
     ensures judged { L.judged_count land.now meter.new
         ≤ L.judged_count land.now meter.old + length cert.now.lines }
+    ensures fresh { L.fresh_count land.now meter.new ≤ L.fresh_count land.now meter.old + 1 }
 {
     // For its clause that the landscape is lawful.
     let _top = land.top();

@@ -1,31 +1,29 @@
-//! The boxes that wait for their lines.
+//! What waits for its line.
 
 ghost use Rattle.std.specs.Prelude.{◌≡◌, MatchOption, IfOk, [], ◌∷◌};
 ghost use Rattle.cert_check.specs.Walk.{with_halves};
 
-use box_core::BoxR;
 use std::alloc::{AllocError, Global};
 use std::marker::Model;
 
-/// The boxes in the order of their lines, which is what contracts see. They are stored in reverse,
-/// so that the next one is at the end.
+/// Boxes in the order of their lines, which is what contracts see. They are stored in reverse, so
+/// that the next one is at the end.
 #[derive(Drop)]
-pub(crate) struct Waiting {
-    list: Vec<BoxR>,
+pub(crate) struct Waiting<X> {
+    list: Vec<X>,
 }
 
-impl Model for Waiting {
+impl<X> Model for Waiting<X> {
     ghost use Rattle.std.specs.Prelude.{List, reverse};
-    ghost use Rattle.box_specs.specs.Span.{Span};
 
-    ghost Value = { List Span };
+    ghost Value = { List X };
 
     ghost view = { λ w. reverse w.list.items };
 }
 
-impl Waiting {
+impl<X: Drop> Waiting<X> {
     /// A list of no boxes.
-    pub(crate) fn new(alloc: Global) -> Waiting
+    pub(crate) fn new(alloc: Global) -> Waiting<X>
         ensures { result ≡ [] }
     {
         Waiting {
@@ -34,7 +32,7 @@ impl Waiting {
     }
 
     /// Removes the first box.
-    pub(crate) fn take(&mut self) -> Option<BoxR>
+    pub(crate) fn take(&mut self) -> Option<X>
         ensures { MatchOption result ((self.old ≡ []) × (self.new ≡ []))
             (λ b. self.old ≡ b ∷ self.new) }
     {
@@ -42,7 +40,7 @@ impl Waiting {
     }
 
     /// Puts a box before the others.
-    pub(crate) fn put(&mut self, part: BoxR) -> Result<(), AllocError>
+    pub(crate) fn put(&mut self, part: X) -> Result<(), AllocError>
         ensures { IfOk result (λ _. self.new ≡ part ∷ self.old) }
     {
         self.list.push(part)?;
@@ -50,7 +48,7 @@ impl Waiting {
     }
 
     /// Puts both halves of a box before the others, if it was split.
-    pub(crate) fn put_halves(&mut self, halves: Option<(BoxR, BoxR)>) -> Result<(), AllocError>
+    pub(crate) fn put_halves(&mut self, halves: Option<(X, X)>) -> Result<(), AllocError>
         ensures { IfOk result (λ _. self.new ≡ with_halves halves self.old) }
     {
         if let Some((lower, upper)) = halves {

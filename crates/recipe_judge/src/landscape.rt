@@ -1,7 +1,7 @@
 //! The recipes of a job as a landscape, which a search and a check can explore.
 
 ghost use Rattle.std.specs.Prelude.{◌≡◌, true};
-ghost use Rattle.box_specs.specs.Landscape.{light_of, limit_of};
+ghost use Rattle.box_specs.specs.Landscape.{judgement, light_of, limit_of};
 ghost use Rattle.box_specs.specs.Span.{IsInside, is_single};
 ghost use Rattle.price_grid.specs.Grid.{IsRecipe, IsUpTo};
 ghost use Rattle.spectral_tables.specs.Spectrum.{IsSpectrum};
@@ -11,7 +11,7 @@ ghost use Rattle.fix_bounds.specs.Scales.{base_unit};
 
 use crate::land::RecipeLand;
 use crate::verdicts::{light_fails, verdict_on};
-use box_core::{BoxR, Evals, Judged, Landscape};
+use box_core::{BoxR, Carrying, Evals, Judged, Landscape};
 use fix_bounds::Base;
 use metamerism::Verdict;
 use mix_model::mix;
@@ -82,6 +82,29 @@ impl RecipeLand {
         let sample = self.spectrum_over(&part.lo, &part.hi);
         verdict_on(&self.lights, &sample)
     }
+
+    /// Whether a light fails on a box. A light that does not exist fails on none.
+    fn light_fails_on(&self, light: u8, part: &BoxR) -> bool
+        requires { IsInside part.now (all_recipes self.now.grid) }
+        ensures { result ≡ (recipe_land self.now).failing light part.now }
+    {
+        if light == 0 || light > self.lights.count() {
+            return false;
+        }
+        let sample = self.spectrum_over(&part.lo, &part.hi);
+        light_fails(self.lights.get(light), &sample)
+    }
+
+    /// What is known of a box.
+    fn judgement_on(&self, part: &BoxR) -> Judged
+        requires { IsInside part.now (all_recipes self.now.grid) }
+        ensures { result ≡ judgement (recipe_land self.now) part.now }
+    {
+        match self.limit_on(part) {
+            Some(limit) => Judged::Limit(limit),
+            None => judged_from(self.verdict_over(part), part.is_single()),
+        }
+    }
 }
 
 impl Landscape for RecipeLand {
@@ -129,18 +152,34 @@ impl Landscape for RecipeLand {
 
     fn fails(&self, light: u8, part: &BoxR, meter: &mut Evals) -> bool {
         meter.count();
-        if light == 0 || light > self.lights.count() {
-            return false;
-        }
-        let sample = self.spectrum_over(&part.lo, &part.hi);
-        light_fails(self.lights.get(light), &sample)
+        self.light_fails_on(light, part)
     }
 
     fn judge(&self, part: &BoxR, meter: &mut Evals) -> Judged {
         meter.count();
-        match self.limit_on(part) {
-            Some(limit) => Judged::Limit(limit),
-            None => judged_from(self.verdict_over(part), part.is_single()),
-        }
+        self.judgement_on(part)
+    }
+}
+
+/// Nothing is held for a box of recipes.
+impl Carrying for RecipeLand {
+    type Held = ();
+
+    ghost stands = { λ l held b. Unit {0} };
+
+    fn hold(&self, _part: &BoxR, meter: &mut Evals) {
+        meter.count_fresh();
+    }
+
+    fn narrow(&self, _held: &(), _part: &BoxR, _dye: u8, _mid: u16, _upper: bool) {}
+
+    fn judge_held(&self, _held: &(), part: &BoxR, meter: &mut Evals) -> Judged {
+        meter.count_judged();
+        self.judgement_on(part)
+    }
+
+    fn fails_held(&self, _held: &(), light: u8, part: &BoxR, meter: &mut Evals) -> bool {
+        meter.count_judged();
+        self.light_fails_on(light, part)
     }
 }

@@ -1,4 +1,4 @@
-use Rattle.box_tests.proofs.Inside.{same_inside}
+use Rattle.box_specs.proofs.Spans.{same_inside}
 use Rattle.box_tests.proofs.tests.judge_top.Goals as goal
 
 pub corner_key-key-requires : goal.corner_key-key-requires

@@ -13,11 +13,11 @@ use Rattle.recipe_judge.proofs.LightTurns.{light_fails_is, read_map}
 use Rattle.recipe_judge.proofs.GridBoxes.{high_recipe}
 use Rattle.recipe_judge.proofs.Waves.{length-spectrum}
 use Rattle.metamerism.proofs.PlaceFacts.{fits_at}
-use Rattle.recipe_judge.proofs.landscape.RecipeLandLandscape.fails.Goals as goal
-use Rattle.recipe_judge.proofs.landscape.RecipeLandLandscape.fails.Goals.{then-light-eq0-via-then-light-eq0, then-light-eq0-via-else-light-eq0+then-light-count}
+use Rattle.recipe_judge.proofs.land.RecipeLand.light_fails_on.Goals as goal
+use Rattle.recipe_judge.proofs.land.RecipeLand.light_fails_on.Goals.{then-light-eq0-via-then-light-eq0, then-light-eq0-via-else-light-eq0+then-light-count}
 
-pub returns-then-light-eq0-clause-is : goal.returns-then-light-eq0-clause-is
-returns-then-light-eq0-clause-is c =
+pub returns-then-light-eq0 : goal.returns-then-light-eq0
+returns-then-light-eq0 c =
     let v = c.args.self.now in
     let lights = lights_of c.self.inside.lights in
     let limits = limits_view c.self.inside.limits in
@@ -28,7 +28,7 @@ returns-then-light-eq0-clause-is c =
     let many : length lights ≡ length v.job.light = sym (length-map lights (λ light. light.tolerance)) ∙ kept_lights v limits c.self.inside.base of_lights deltas places kept in
     sym (no_such_light v c.args.part.now c.args.light (elim c.then-light-eq0.branch [
       | then-light-eq0-via-then-light-eq0 w ↦ inl w.if-light-eq0.true
-      | then-light-eq0-via-else-light-eq0+then-light-count w ↦ inr (omega (arith, many, w.if-light-count.true, w.count-else-light-eq0.ensures.is))
+      | then-light-eq0-via-else-light-eq0+then-light-count w ↦ inr (omega (arith, many, w.if-light-count.true, w.count.ensures.is))
     ]))
 
 pub spectrum_over-sample-requires-clause-recipe : goal.spectrum_over-sample-requires-clause-recipe
@@ -47,11 +47,11 @@ light_fails-requires c =
     let places = places_of c.self.inside.lights in
     let kept : KeepsLand v limits c.self.inside.base of_lights deltas places = subst (λ (r : ResolvedJob). KeepsLand r limits c.self.inside.base of_lights deltas places) c.self.view_is c.self.invariant in
     let fits = ap length c.spectrum_over-sample.ensures.is ∙ length-spectrum v (10 ^ 12) c.part.inside.lo.items c.part.inside.hi.items kept.is_land.found.waves ∙ sym kept.places_are in
-    let lt : c.args.light - 1 < length lights = omega (arith, c.if-light-eq0.false, c.if-light-count.false, c.count-else-light-eq0.ensures.is) in
+    let lt : c.args.light - 1 < length lights = omega (arith, c.if-light-eq0.false, c.if-light-count.false, c.count.ensures.is) in
     fits_at lights (c.args.light - 1) c.get.result.now c.spectrum_over-sample.result lt c.get.ensures c.self.inside.lights.equal fits
 
-pub returns-clause-is : goal.returns-clause-is
-returns-clause-is c =
+pub returns : goal.returns
+returns c =
     let v = c.args.self.now in
     let b : Span = record { lo = c.part.inside.lo.items; hi = c.part.inside.hi.items } in
     let lights = lights_of c.self.inside.lights in
