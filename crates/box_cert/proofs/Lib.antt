@@ -9,6 +9,9 @@ mod Prefixes
 mod Steps
 mod Drafting
 mod Parts
+mod LongLines
+mod Ongoing
+mod Fed
 mod Numerals
 mod Takes
 mod Again

@@ -1,5 +1,6 @@
 pub mod Claims
 pub mod Drafts
+pub mod Feeding
 pub mod Form
 pub mod LineTexts
 pub mod Lines

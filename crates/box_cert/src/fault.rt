@@ -6,7 +6,7 @@ use box_core::{CertFault, CertRule};
 use thiserror::Error;
 
 /// Why a certificate was not read.
-#[derive(Debug, Drop, Error)]
+#[derive(Clone, Copy, Debug, Error)]
 pub enum CertError {
     /// The text has a fault.
     #[error("line {} of the certificate has a fault", .0.line)]
