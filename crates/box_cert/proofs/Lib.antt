@@ -12,6 +12,7 @@ mod Parts
 mod LongLines
 mod Ongoing
 mod Fed
+mod Coming
 mod Numerals
 mod Takes
 mod Again

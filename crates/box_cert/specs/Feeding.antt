@@ -62,10 +62,10 @@ gives_after (Some (errors.Fault f)) r more = Err f
 abbrev pub feed_gives : FeedState → List ℕ → Result Content CertFault
 feed_gives feed more = gives_after feed.failed feed.reader more
 
--- what holds of the reader of a feed of so many bytes, until the text is refused; the fault stays
-abbrev pub IsFeed : ℕ → ℕ → Option CertError → Reader → Type 0
-IsFeed dims taken None r = (r.draft.dims ≡ dims) × IsReader r × (reader_size r ≤ taken + 2)
-IsFeed dims taken (Some e) r = IsLasting e
+-- until the text is refused the reader is that of so many bytes; the fault stays
+abbrev pub KeepsReader : ℕ → ℕ → Option CertError → Reader → Type 0
+KeepsReader dims taken None r = (r.draft.dims ≡ dims) × IsReader r × (reader_size r ≤ taken + 2)
+KeepsReader dims taken (Some e) r = IsLasting e
 
 -- nothing was fed
 pub record IsFresh (count : ℕ) (feed : FeedState) : Type 0 where

@@ -7,5 +7,6 @@ pub mod Lines
 pub mod Numbers
 pub mod Reading
 pub mod Spelling
+pub mod Taking
 pub mod Text
 pub mod Writing

@@ -22,3 +22,20 @@ pub(crate) fn fault(line: u32, rule: CertRule) -> CertError
 {
     CertError::Fault(CertFault { line, rule })
 }
+
+/// Why a certificate was not read from a file.
+#[derive(Clone, Copy, Debug, Error)]
+pub enum TakeCertError {
+    /// A read of the file failed.
+    #[error("the certificate cannot be read")]
+    Fault,
+    /// The file has more bytes than a certificate may have.
+    #[error("the certificate is too long")]
+    TooLong,
+    /// The text has a fault.
+    #[error("line {} of the certificate has a fault", .0.line)]
+    Grammar(CertFault),
+    /// Memory ran out.
+    #[error("out of memory")]
+    Memory,
+}

@@ -8,6 +8,7 @@ ghost use Rattle.box_cert.specs.Text.{IsCertFor};
 ghost use Rattle.box_cert.specs.declared.read.TheConstants.{CERT_LIMIT};
 
 use crate::fault::CertError;
+use crate::read::CERT_LIMIT;
 use crate::reader::Reader;
 use box_core::Cert;
 use std::alloc::{AllocError, Global};
@@ -25,7 +26,8 @@ pub struct CertFeed {
 }
 
 impl Model for CertFeed {
-    ghost use Rattle.box_cert.specs.Feeding.{FeedState, IsFeed};
+    ghost use Rattle.std.specs.Prelude.{◌≤◌};
+    ghost use Rattle.box_cert.specs.Feeding.{FeedState, KeepsReader};
 
     ghost Value = { FeedState };
 
@@ -36,7 +38,7 @@ impl Model for CertFeed {
       reader = f.reader;
     } };
 
-    ghost invariant = { λ f. IsFeed f.dims f.taken f.failed f.reader };
+    ghost invariant = { λ f. (f.taken ≤ 64000000) × KeepsReader f.dims f.taken f.failed f.reader };
 }
 
 impl CertFeed {
@@ -52,6 +54,13 @@ impl CertFeed {
             taken: 0,
             failed: None,
         })
+    }
+
+    /// How many more bytes may be fed.
+    pub fn room(&self) -> u64
+        ensures { self.now.taken + result ≡ CERT_LIMIT }
+    {
+        CERT_LIMIT - self.taken
     }
 
     /// Reads the next bytes. The result is the fault that the bytes so far have, if no bytes to come
