@@ -1,5 +1,5 @@
 -- The bytes before the first mark, and those after it.
-use Rattle.std.proofs.Common.{◌≡◌, ℕ, suc, ◌+◌, Bool, true, false, not, cond, nat_lt, List, [], ◌∷◌, ◌++◌, length, take, drop, refl, sym, ap, ◌∙◌, arith, subst, length-append, if◌then◌else◌}
+use Rattle.std.proofs.Common.{◌≡◌, ℕ, zero, suc, ◌+◌, Bool, true, false, not, cond, nat_lt, List, [], ◌∷◌, ◌++◌, length, take, drop, refl, sym, ap, ◌∙◌, arith, subst, length-append, if◌then◌else◌}
 use Rattle.std.specs.Prelude.{Option, Some, None, option_map, unwrap_or}
 use Rattle.std.specs.List.{position, prefix_len}
 use Rattle.std.proofs.lemmas.Bool.Decides.{nat_tests}
@@ -61,3 +61,47 @@ cut_takes mark (b ∷ bs) r h = go (is_mark mark b) refl (cut_at mark bs) (cut_t
 
 pub cut_length : (mark : ℕ) (text : List ℕ) (r : List ℕ × List ℕ) → cut_at mark text ≡ Some r → length r.0 + 1 + length r.1 ≡ length text
 cut_length mark text r h = let e : length text ≡ length (r.0 ++ (mark ∷ r.1)) = ap length (cut_takes mark text r h) in omega (arith, e, length-append r.0 (mark ∷ r.1))
+
+-- the text before a mark has no mark
+pub cut_free : (mark : ℕ) (text : List ℕ) (r : List ℕ × List ℕ) → cut_at mark text ≡ Some r → cut_at mark r.0 ≡ None
+cut_free mark [] r h = absurd (none-some r h)
+cut_free mark (b ∷ bs) r h = go (is_mark mark b) refl (cut_at mark bs) (cut_free mark bs) h where
+  go : (q : Bool) → is_mark mark b ≡ q → (o : Option (List ℕ × List ℕ)) → ((s : List ℕ × List ℕ) → o ≡ Some s → cut_at mark s.0 ≡ None)
+      → (if q then Some ([], bs) else option_map (onto b) o) ≡ Some r → cut_at mark r.0 ≡ None
+  go true is o rest e = ap (λ p. cut_at mark p.0) (sym (some_same ([], bs) r e))
+  go false is None rest e = absurd (none-some r e)
+  go false is (Some s) rest e =
+      ap (λ p. cut_at mark p.0) (sym (some_same (onto b s) r e))
+      ∙ ap (λ q. if q then Some ([], s.0) else option_map (onto b) (cut_at mark s.0)) is ∙ ap (option_map (onto b)) (rest s refl)
+
+-- what comes before a cut, and before both of its parts
+abbrev pub after : List ℕ → List ℕ × List ℕ → List ℕ × List ℕ
+after a r = (a ++ r.0, r.1)
+
+-- a text after one without a mark is cut where it is cut alone
+pub cut_after : (mark : ℕ) (a text : List ℕ) → cut_at mark a ≡ None → cut_at mark (a ++ text) ≡ option_map (after a) (cut_at mark text)
+cut_after mark [] text h = sym (same (cut_at mark text)) where
+  same : (o : Option (List ℕ × List ℕ)) → option_map (after []) o ≡ o
+  same None = refl
+  same (Some r) = refl
+cut_after mark (b ∷ bs) text h = go (is_mark mark b) (cut_at mark bs) (cut_after mark bs text) h where
+  later : (o : Option (List ℕ × List ℕ)) → option_map (onto b) (option_map (after bs) o) ≡ option_map (after (b ∷ bs)) o
+  later None = refl
+  later (Some r) = refl
+
+  go : (q : Bool) (o : Option (List ℕ × List ℕ)) → (o ≡ None → cut_at mark (bs ++ text) ≡ option_map (after bs) (cut_at mark text)) → (if q then Some ([], bs) else option_map (onto b) o) ≡ None
+      → (if q then Some ([], bs ++ text) else option_map (onto b) (cut_at mark (bs ++ text))) ≡ option_map (after (b ∷ bs)) (cut_at mark text)
+  go true o rest e = absurd (none-some ([], bs) (sym e))
+  go false None rest e = ap (option_map (onto b)) (rest refl) ∙ later (cut_at mark text)
+  go false (Some r) rest e = absurd (none-some (onto b r) (sym e))
+
+-- the beginning of a text without a mark has none
+pub cut_take : (mark n : ℕ) (text : List ℕ) → cut_at mark text ≡ None → cut_at mark (take n text) ≡ None
+cut_take mark zero text h = refl
+cut_take mark (suc n) [] h = refl
+cut_take mark (suc n) (b ∷ bs) h = go (is_mark mark b) (cut_at mark bs) (cut_take mark n bs) h where
+  go : (q : Bool) (o : Option (List ℕ × List ℕ)) → (o ≡ None → cut_at mark (take n bs) ≡ None) → (if q then Some ([], bs) else option_map (onto b) o) ≡ None
+      → (if q then Some ([], take n bs) else option_map (onto b) (cut_at mark (take n bs))) ≡ None
+  go true o rest e = absurd (none-some ([], bs) (sym e))
+  go false None rest e = ap (option_map (onto b)) (rest refl)
+  go false (Some r) rest e = absurd (none-some (onto b r) (sym e))

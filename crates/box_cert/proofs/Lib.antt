@@ -9,6 +9,10 @@ mod Prefixes
 mod Steps
 mod Drafting
 mod Parts
+mod LongLines
+mod Ongoing
+mod Fed
+mod Coming
 mod Numerals
 mod Takes
 mod Again

@@ -1,15 +1,17 @@
 -- A certificate of which the first lines are read.
-use Rattle.std.specs.Prelude.{◌≡◌, ◌==◌, ◌+◌, ◌≤◌, ◌++◌, ℕ, zero, suc, Bool, false, All, List, [], ◌∷◌, length, map, Result, Ok, Err}
+use Rattle.std.specs.Prelude.{◌≡◌, ◌==◌, ◌+◌, ◌≤◌, ◌++◌, ℕ, zero, suc, Bool, true, false, All, List, [], ◌∷◌, length, map, Result, Ok, Err}
 use Rattle.box_core.specs.Ranges.{ClaimFits, LineFits}
 use Rattle.box_specs.specs.Validity.{are_trees}
 use Rattle.box_specs.specs.declared.certificate.CertFault.{CertFault}
 use Rattle.box_specs.specs.declared.certificate.CertLine.{CertLine}
-use Rattle.box_specs.specs.declared.certificate.CertRule.TheVariants.{BadClaim, BadHeader}
+use Rattle.box_specs.specs.declared.certificate.CertRule.{CertRule}
+use Rattle.box_specs.specs.declared.certificate.CertRule.TheVariants.{BadClaim, BadHeader, BadLine, Left, Missing}
 use Rattle.box_specs.specs.declared.certificate.Claim.{Claim}
 use Rattle.box_cert.specs.declared.draft.Draft.{Draft}
 use Rattle.box_cert.specs.declared.draft.Part.{Part}
 use Rattle.box_cert.specs.declared.draft.Part.TheVariants as parts
 use Rattle.box_cert.specs.declared.fault.CertError.{CertError}
+use Rattle.box_cert.specs.declared.fault.CertError.TheVariants as errors
 use Rattle.box_cert.specs.Claims.{HasDims, claim_of}
 use Rattle.box_cert.specs.Form.{header_of, lists_then, then_claim, then_end, then_lists, then_tree}
 use Rattle.box_cert.specs.Reading.{◌>>=◌, AreRecipes, Cursor, FailsAs, next_of, recipes_at, trees_at, with_prefix}
@@ -91,7 +93,19 @@ pub record Took (old : Draft) (line : List ℕ) (new : Draft) : Type 0 where
   pub some : 1 ≤ length line
   pub same : (lines : List (List ℕ)) (left : List ℕ) → still new lines left ≡ still old (line ∷ lines) left
 
+abbrev pub is_missing : CertRule → Bool
+is_missing BadHeader = false
+is_missing BadClaim = false
+is_missing BadLine = false
+is_missing Missing = true
+is_missing Left = false
+
+-- no bytes to come can mend the text: no line is only missing
+abbrev pub IsLasting : CertError → Type 0
+IsLasting errors.Memory = Unit {0}
+IsLasting (errors.Fault f) = is_missing f.rule ≡ false
+
 -- the line was taken, or it is the first fault of the text, whatever comes after it
 abbrev pub Takes : {T : Type 0} → Draft → List ℕ → Result T CertError → Draft → Type 0
 Takes old line (Ok _) new = Took old line new
-Takes old line (Err e) new = (lines : List (List ℕ)) (left : List ℕ) → FailsAs e (still old (line ∷ lines) left)
+Takes old line (Err e) new = IsLasting e × ((lines : List (List ℕ)) (left : List ℕ) → FailsAs e (still old (line ∷ lines) left))

@@ -1,10 +1,12 @@
 pub mod Claims
 pub mod Drafts
+pub mod Feeding
 pub mod Form
 pub mod LineTexts
 pub mod Lines
 pub mod Numbers
 pub mod Reading
 pub mod Spelling
+pub mod Taking
 pub mod Text
 pub mod Writing

@@ -214,7 +214,7 @@ impl Draft {
         ensures { Takes self.old line.now result self.new }
     {
         if wanted == 0 {
-            return Err(fault(self.number, CertRule::Left));
+            return Err(self.left());
         }
         let Some(read) = read_line(line) else {
             return Err(fault(self.number, CertRule::BadLine));
@@ -242,18 +242,28 @@ impl Draft {
         }
     }
 
-    /// The certificate, where all lines were taken and these bytes are left after the last line
-    /// feed.
-    pub(crate) fn finish(self, left: &[u8]) -> Result<Cert, CertError>
+    /// Whether the tree is whole, so that nothing may follow.
+    pub(crate) fn is_whole(&self) -> bool
+        ensures { result ≡ is_whole self.now.part }
+    {
+        is_whole(self.part)
+    }
+
+    /// The fault of what follows a whole tree.
+    pub(crate) fn left(&self) -> CertError
+        ensures { result ≡ CertError.Fault (record { line = self.now.number; rule = CertRule.Left }) }
+    {
+        fault(self.number, CertRule::Left)
+    }
+
+    /// The certificate, where all lines were taken and nothing is left.
+    pub(crate) fn finish(self) -> Result<Cert, CertError>
         requires { IsDraft self }
-        ensures is { Gives (λ cert. content cert) result (still self [] left.now) }
+        ensures is { Gives (λ cert. content cert) result (still self [] []) }
         ensures fits { IfOk result (λ cert. IsCertFor self.dims (content cert)) }
     {
         if !is_whole(self.part) {
             return Err(fault(self.number, CertRule::Missing));
-        }
-        if !left.is_empty() {
-            return Err(fault(self.number, CertRule::Left));
         }
         Ok(Cert {
             claim: self.claim,

@@ -1,7 +1,8 @@
 //! The laws of reading and writing. A call does nothing; what it ensures is the law.
 
-ghost use Rattle.std.specs.Prelude.{◌≡◌, ◌≤◌, ℕ, List, Ok};
+ghost use Rattle.std.specs.Prelude.{◌≡◌, ◌≤◌, ℕ, List, Ok, flat_map};
 ghost use Rattle.box_core.specs.declared.cert.Cert.{Cert};
+ghost use Rattle.box_cert.specs.Feeding.{FeedState, FeedsAll, HasRead, IsFresh};
 ghost use Rattle.box_cert.specs.Spelling.{Content, cert_text, content};
 ghost use Rattle.box_cert.specs.Text.{HaveDyes, IsCertFor, cert_of, dyes_of};
 
@@ -21,4 +22,10 @@ pub fn each_is_read()
         IsCertFor dims (content cert) }
     ensures read { (cert : Cert) (dims : ℕ) → HaveDyes dims (content cert) →
         cert_of dims (cert_text (content cert)) ≡ Ok (content cert) }
+{}
+
+/// However a text is cut into pieces, a feed of them gives what the whole text gives.
+pub fn any_cut()
+    ensures { (dims : ℕ) (pieces : List (List ℕ)) (start end : FeedState) → IsFresh dims start →
+        FeedsAll pieces start end → HasRead dims (flat_map (λ piece. piece) pieces) end }
 {}

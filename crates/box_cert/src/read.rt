@@ -6,33 +6,13 @@ ghost use Rattle.box_cert.specs.Reading.{Gives};
 ghost use Rattle.box_cert.specs.Text.{IsCertFor, cert_of};
 ghost use Rattle.box_cert.specs.declared.read.TheConstants.{CERT_LIMIT};
 
-use crate::draft::Draft;
 use crate::fault::CertError;
-use crate::number::cut_at;
+use crate::feed::CertFeed;
 use box_core::Cert;
 use std::alloc::Global;
 
 /// How many bytes the text of a certificate may have.
 pub const CERT_LIMIT: u64 = 64_000_000;
-
-/// The certificate that the bytes spell, or their first fault.
-fn whole_cert(alloc: Global, bytes: &[u8], dims: usize) -> Result<Cert, CertError>
-    requires short { length bytes.now ≤ CERT_LIMIT }
-    requires some { 1 ≤ dims }
-    requires few { dims ≤ 12 }
-    ensures exact { Gives (λ cert. content cert) result (cert_of dims bytes.now) }
-    ensures fits { IfOk result (λ cert. IsCertFor dims (content cert)) }
-{
-    let mut draft = Draft::new(alloc, dims);
-    let mut rest = bytes;
-    while let Some((line, tail)) = cut_at(b'\n', rest) {
-        match draft.take(line) {
-            Ok(()) => rest = tail,
-            Err(e) => return Err(e),
-        }
-    }
-    draft.finish(rest)
-}
 
 /// The certificate that the bytes spell, with recipes of `dims` dyes, or their first fault.
 ///
@@ -51,5 +31,9 @@ pub fn read_cert(alloc: Global, bytes: &[u8], dims: usize) -> Result<Cert, CertE
     ensures unique { (c : Content) → IsCertFor dims c → bytes.now ≡ cert_text c →
         Gives (λ cert. content cert) result (Ok c) }
 {
-    whole_cert(alloc, bytes, dims)
+    let Ok(mut feed) = CertFeed::start(alloc, dims) else {
+        return Err(CertError::Memory);
+    };
+    let _told = feed.feed(bytes);
+    feed.finish()
 }

@@ -3,7 +3,7 @@ mod Changes
 mod CreateKeeps
 mod Files
 pub mod Filling
-mod Prefixes
+pub mod Prefixes
 pub mod Keeping
 mod Promises
 mod ReadKeeps
