@@ -1,5 +1,6 @@
 -- Nodes in rising order, and the value of a broken line before and after a node.
-use Rattle.std.proofs.Common.{◌≡◌, ◌-◌, ◌<◌, ◌≤◌, ℕ, List, [], ◌∷◌, refl, ap, arith, if◌then◌else◌}
+use Rattle.std.proofs.Common.{◌≡◌, ◌-◌, ◌<◌, ◌≤◌, ℕ, List, [], ◌∷◌, ⊎_elim, refl, sym, ap, ◌∙◌, arith, if◌then◌else◌}
+use Rattle.std.proofs.lemmas.Bool.{cases_lt}
 use Rattle.interval_specs.specs.Ends.{Ends}
 use Rattle.interval_specs.specs.Operations.{fraction_of}
 use Rattle.interval_specs.proofs.Held.{same_ends}
@@ -49,3 +50,14 @@ pub at_node : (P : Ends → Type 0) (a : Node) (nodes : List Node) → Chain P a
 unfolding value_from
 at_node P a [] h some = whole_fraction a.units a.value some
 at_node P a (b ∷ nodes) h some = rw (before_next a b nodes a.units h.1.0) (at_first a b h.1.0)
+
+-- the value on a piece
+pub piece_is : (P : Ends → Type 0) (a b : Node) (nodes : List Node) (x : ℕ) → Chain P a (b ∷ nodes) → x ≤ b.units → value_from a (b ∷ nodes) x ≡ between_at a b x
+piece_is P a b nodes x chain le =
+    ⊎_elim
+    (λ (less : x < b.units). before_next a b nodes x less)
+    (λ (ge : b.units ≤ x).
+    let same : x ≡ b.units = omega (arith, le, ge) in
+    let some : 0 < b.units = omega (arith, chain.1.0) in
+    ap (value_from a (b ∷ nodes)) same ∙ from_next a b nodes b.units (omega arith) ∙ at_node P b nodes chain.1.1 some ∙ sym (at_last a b chain.1.0) ∙ ap (between_at a b) (sym same))
+    (cases_lt x b.units)

@@ -6,18 +6,16 @@ use Rattle.std.proofs.lemmas.Bool.Decides.{nat_tests}
 use Rattle.std.proofs.lemmas.List.Elements.{All-cons, All-nil, All-head, All-tail}
 use Rattle.std.proofs.lemmas.List.{length-map, get_or_default}
 use Rattle.interval_specs.specs.Ends.{nothing}
-use Rattle.interval_specs.specs.Operations.{hull_of}
 use Rattle.interval_specs.proofs.Laws.{none_of}
-use Rattle.spectral_tables.specs.Spectrum.{ends_of}
 use Rattle.ks_curves.specs.declared.node.StoredNode.{StoredNode}
 use Rattle.ks_curves.specs.Dye.{Dyeing, IsDyeing}
-use Rattle.ks_curves.specs.BrokenLine.{Node, origin, value_from, broken_over}
+use Rattle.ks_curves.specs.BrokenLine.{Node, origin, value_from}
 use Rattle.ks_curves.specs.Nodes.{KeepsNodes}
 use Rattle.std.proofs.Math.Seq.{drop-cons}
 use Rattle.ks_curves.specs.Order.{put_by, place_by}
 use Rattle.ks_curves.specs.Calibration.{node_at, nodes_at, in_order}
 use Rattle.ks_curves.specs.StoredNode.{node_of, RiseFrom, IsAdded, AreNodes}
-use Rattle.ks_curves.proofs.BrokenLaws.{node_added, widened_single}
+use Rattle.ks_curves.proofs.BrokenLaws.{node_added}
 use Rattle.ks_curves.proofs.Cases.{by_less, less_test, not_less_test, most_test, not_most_test}
 use Rattle.ks_curves.proofs.Chains.{Chain, before_next, at_first}
 use Rattle.ks_curves.proofs.Orders.{Rises, order_rises}
@@ -31,18 +29,10 @@ chain_from a (b ∷ nodes) here rise each =
     let Q : Node → Type 0 = λ b. IsAdded b.value in
     (here, (rise.0, chain_from b nodes (All-head Q b nodes each) rise.1 (All-tail Q b nodes each)))
 
-none_at_origin : (nodes : List Node) → RiseFrom 0 nodes → value_from origin nodes 0 ≡ nothing
+pub none_at_origin : (nodes : List Node) → RiseFrom 0 nodes → value_from origin nodes 0 ≡ nothing
 unfolding value_from
 none_at_origin [] rise = none_of 0 nothing
 none_at_origin (b ∷ nodes) rise = before_next origin b nodes 0 rise.0 ∙ at_first origin b rise.0
-
-pub broken_of_none : (nodes : List Node) (x0 x1 : ℕ) → RiseFrom 0 nodes → x0 ≤ x1 → x1 ≡ 0 → ends_of (0, 0) ≡ broken_over nodes x0 x1
-unfolding broken_over hull_of
-broken_of_none nodes x0 x1 rise le last =
-    let first : x0 ≡ 0 = omega (arith, last, le) in
-    let none = none_at_origin nodes rise in
-    let all : broken_over nodes 0 0 ≡ nothing = widened_single 0 (hull_of (value_from origin nodes 0) (value_from origin nodes 0)) nodes ∙ ap (λ e. hull_of e e) none in
-    sym all ∙ (λ i. broken_over nodes (sym first i) (sym last i))
 
 -- ---- a node is put among the others
 

@@ -14,7 +14,7 @@ use Rattle.ks_curves.specs.StoredNode.{past_over, IsAdded}
 use Rattle.ks_curves.specs.Walk.{joined_ends, piece_over, over_from}
 use Rattle.ks_curves.proofs.BrokenLaws.{Within, NodesWithin, within, hull_within, hull_left, hull_right, widened_first, widened_nodes, widened_within}
 use Rattle.ks_curves.proofs.Cases.{most_test, not_most_test, less_test, not_less_test}
-use Rattle.ks_curves.proofs.Chains.{Chain, from_next, before_next, at_last, at_node}
+use Rattle.ks_curves.proofs.Chains.{Chain, from_next, before_next, at_last, piece_is}
 use Rattle.ks_curves.proofs.Units.{more_units, once, at_once}
 
 -- ---- the three cases of a step
@@ -51,19 +51,8 @@ joined_last : (k l : ℤ) (before : Option Ends) (e : Ends) → Within k l (join
 joined_last k l None e h = h
 joined_last k l (Some d) e h = hull_right k l d e h
 
--- the value on a piece
-piece_is : (a b : Node) (nodes : List Node) (x : ℕ) → Chain IsAdded a (b ∷ nodes) → x ≤ b.units → value_from a (b ∷ nodes) x ≡ between_at a b x
-piece_is a b nodes x chain le =
-    ⊎_elim
-    (λ (less : x < b.units). before_next a b nodes x less)
-    (λ (ge : b.units ≤ x).
-    let same : x ≡ b.units = omega (arith, le, ge) in
-    let some : 0 < b.units = omega (arith, chain.1.0) in
-    ap (value_from a (b ∷ nodes)) same ∙ from_next a b nodes b.units (omega arith) ∙ at_node IsAdded b nodes chain.1.1 some ∙ sym (at_last a b chain.1.0) ∙ ap (between_at a b) (sym same))
-    (cases_lt x b.units)
-
 -- past the last node neither end falls
-past_rises : (e : Ends) (u x y : ℕ) → IsAdded e → x ≤ y → ((fraction_of x u e).lo ≤ℤ (fraction_of y u e).lo) × ((fraction_of x u e).hi ≤ℤ (fraction_of y u e).hi)
+pub past_rises : (e : Ends) (u x y : ℕ) → IsAdded e → x ≤ y → ((fraction_of x u e).lo ≤ℤ (fraction_of y u e).lo) × ((fraction_of x u e).hi ≤ℤ (fraction_of y u e).hi)
 unfolding fraction_of
 past_rises e u x y some le = (
   low (floor_finer 1 u (e.lo *ℤ pos x) (e.lo *ℤ pos y) (once _ _ (more_units e.lo e.lo x y some.not_negative (refl_ℤ e.lo) le))),
@@ -92,15 +81,15 @@ walk_within k l before a (b ∷ nodes) x0 x1 chain le reach h each =
     (λ (inside : x0 < b.units).
     let start : ℕ = max x0 a.units in
     let left : start ≤ x1 → W (between_at a b start) =
-    λ (r : start ≤ x1). subst W (piece_is a b nodes start chain (omega (arith, inside, lt))) (each start (omega arith) (omega arith) r) in
+    λ (r : start ≤ x1). subst W (piece_is IsAdded a b nodes start chain (omega (arith, inside, lt))) (each start (omega arith) (omega arith) r) in
     ⊎_elim
     (λ (more : b.units < x1).
-    let right : W (between_at a b b.units) = subst W (piece_is a b nodes b.units chain (omega arith)) (each b.units (omega (arith, lt)) (omega (arith, inside)) (omega (arith, more))) in
+    let right : W (between_at a b b.units) = subst W (piece_is IsAdded a b nodes b.units chain (omega arith)) (each b.units (omega (arith, lt)) (omega (arith, inside)) (omega (arith, more))) in
     let piece : W (piece_over a b start b.units) = hull_within k l _ _ (left (omega (arith, le, reach))) right in
     subst W (sym (whole_piece before a b nodes x0 x1 inside more))
     (walk_within k l (Some (joined_ends before (piece_over a b start b.units))) b nodes x0 x1 chain.1.1 le (omega (arith, more)) (joined_within k l before _ h piece) (later (omega (arith, more)))))
     (λ (end : x1 ≤ b.units).
-    let right : W (between_at a b x1) = subst W (piece_is a b nodes x1 chain end) (each x1 reach le (omega arith)) in
+    let right : W (between_at a b x1) = subst W (piece_is IsAdded a b nodes x1 chain end) (each x1 reach le (omega arith)) in
     subst W (sym (last_piece before a b nodes x0 x1 inside end)) (joined_within k l before _ h (hull_within k l _ _ (left (omega (arith, le, reach))) right)))
     (cases_lt b.units x1))
     (λ (past : b.units ≤ x0).
@@ -162,7 +151,7 @@ covers k l before a (b ∷ nodes) x0 x1 chain le reach h =
     record {
       earlier = joined_before k l before _ all;
       first = at_start (hull_left k l _ _ piece) inside;
-      last = subst W (sym (piece_is a b nodes x1 chain end)) (hull_right k l _ _ piece);
+      last = subst W (sym (piece_is IsAdded a b nodes x1 chain end)) (hull_right k l _ _ piece);
       inner = All-cons Q b nodes (λ p q. absurd (omega (arith, q, end))) (λ i d lt p q. let far = later_nodes b nodes chain.1.1 i d lt in absurd (omega (arith, far, q, end)));
     })
     (cases_lt b.units x1))

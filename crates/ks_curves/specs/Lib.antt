@@ -5,6 +5,7 @@ pub mod Order
 pub mod Calibration
 pub mod Slope
 pub mod StoredNode
+pub mod Piece
 pub mod Walk
 pub mod Nodes
 pub mod Shape

@@ -23,6 +23,11 @@ abbrev pub RiseFrom : ℕ → List Node → Type 0
 RiseFrom u [] = ⊤
 RiseFrom u (a ∷ nodes) = (u < a.units) × RiseFrom a.units nodes
 
+-- neither end of the values falls from node a on
+abbrev pub Climb : Node → List Node → Type 0
+Climb a [] = ⊤
+Climb a (b ∷ nodes) = ((a.value.lo ≤ℤ b.value.lo) × (a.value.hi ≤ℤ b.value.hi)) × Climb b nodes
+
 -- a value in order that is not below 0
 pub record IsAdded (value : Ends) : Type 0 where
   pub not_negative : pos 0 ≤ℤ value.lo

@@ -14,6 +14,7 @@ ghost use Rattle.ks_curves.specs.BrokenLine.{broken_over};
 use crate::calibration::{added, are_curves};
 use crate::node::StoredNode;
 use crate::nodes::{Inverses, Nodes};
+use crate::reach::Reach;
 use arrayvec::ArrayVec;
 use fix_bounds::{Base, Iv, Quick, Scale};
 use spectral_tables::{Curve, MOST_WAVES};
@@ -102,6 +103,17 @@ impl BrokenLine {
         }
     }
 
+    /// Guesses at the pieces on which `x0` and `x1` units lie, at any wavelength.
+    pub(crate) fn reach(&self, x0: u32, x1: u32) -> Reach {
+        match self.base.as_slice().first() {
+            Some(nodes) => Reach {
+                first: nodes.place(x0, &self.inverses),
+                last: nodes.place(x1, &self.inverses),
+            },
+            None => Reach::default(),
+        }
+    }
+
     /// The ends of the values over units from `x0` to `x1` at a wavelength: of the nodes that are
     /// stored at both scales, and of computed ones at any other.
     #[inline(always)]
@@ -112,6 +124,7 @@ impl BrokenLine {
         x0: u32,
         x1: u32,
         wave: usize,
+        reach: &Reach,
     ) -> (u128, u128)
         requires wave { wave < length substrate.now }
         requires dyeings { CanFit substrate.now dyeings.now }
@@ -121,16 +134,17 @@ impl BrokenLine {
             ≡ broken_over (nodes_at S.unit substrate.now wave dyeings.now) x0 x1 }
     {
         if S::UNIT == Base::UNIT {
-            self.base.as_slice()[wave].value_over(x0, x1, &self.inverses)
+            self.base.as_slice()[wave].value_over(x0, x1, reach, &self.inverses)
         } else if S::UNIT == Quick::UNIT {
-            self.quick.as_slice()[wave].value_over(x0, x1, &self.inverses)
+            self.quick.as_slice()[wave].value_over(x0, x1, reach, &self.inverses)
         } else {
-            nodes::<S>(substrate, dyeings, wave).value_over(x0, x1, &self.inverses)
+            nodes::<S>(substrate, dyeings, wave).value_over(x0, x1, reach, &self.inverses)
         }
     }
 
-    /// The values of the line over units from `x0` to `x1` at a wavelength.
-    #[inline(never)]
+    /// The values of the line over units from `x0` to `x1` at a wavelength. `reach` is a guess at the
+    /// pieces on which both lie.
+    #[inline(always)]
     pub(crate) fn value_over<S: Scale>(
         &self,
         substrate: &Curve,
@@ -138,6 +152,7 @@ impl BrokenLine {
         x0: u32,
         x1: u32,
         wave: usize,
+        reach: &Reach,
     ) -> Iv<S>
         requires wave { wave < length substrate.now }
         requires dyeings { CanFit substrate.now dyeings.now }
@@ -149,7 +164,7 @@ impl BrokenLine {
         ensures is { result ≡ broken_over (nodes_at S.unit substrate.now wave dyeings.now) x0 x1 }
         ensures range { UpTo (4 * 10 ^ 8 * S.unit) result }
     {
-        let (below, above) = self.ends_over::<S>(substrate, dyeings, x0, x1, wave);
+        let (below, above) = self.ends_over::<S>(substrate, dyeings, x0, x1, wave, reach);
         Iv::of_ends(below as i128, above as i128)
     }
 }

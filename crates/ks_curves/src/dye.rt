@@ -7,6 +7,7 @@ ghost use Rattle.ks_curves.specs.Calibration.{value_over};
 
 use crate::broken::BrokenLine;
 use crate::kind::Calibration;
+use crate::reach::{Places, Reach};
 use crate::shape::Shape;
 use crate::slope::Slope;
 use arrayvec::ArrayVec;
@@ -107,9 +108,40 @@ impl Dye {
         self.substrate.waves()
     }
 
-    /// The value of the calibration over units from `x0` to `x1` at a wavelength.
+    /// Guesses at where `x0` and `x1` units lie on a broken line.
+    pub(crate) fn reach(&self, x0: u32, x1: u32) -> Reach {
+        match &self.shape {
+            Shape::Straight(_) => Reach::default(),
+            Shape::Broken(line) => line.reach(x0, x1),
+        }
+    }
+
+    /// Guesses at where an addition of `x0` to `x1` units lies, where `bath` units of the dye are on
+    /// the cloth. They serve at each wavelength.
+    pub fn places(&self, bath: u32, x0: u32, x1: u32) -> Places {
+        match &self.shape {
+            Shape::Straight(_) => Places::default(),
+            Shape::Broken(line) => Places {
+                bath: line.reach(bath, bath),
+                sum: line.reach(bath.saturating_add(x0), bath.saturating_add(x1)),
+            },
+        }
+    }
+
+    /// The same of an addition of `n0` to `n1` steps, where `bath` steps are on the cloth.
+    pub fn places_of_steps(&self, bath: u16, n0: u16, n1: u16) -> Places {
+        let step = self.step;
+        self.places(
+            u32::from(bath).saturating_mul(step),
+            u32::from(n0).saturating_mul(step),
+            u32::from(n1).saturating_mul(step),
+        )
+    }
+
+    /// The value of the calibration over units from `x0` to `x1` at a wavelength. `reach` is a guess
+    /// at where both lie on a broken line.
     #[inline(always)]
-    pub(crate) fn value_over<S: Scale>(&self, x0: u32, x1: u32, wave: usize) -> Iv<S>
+    pub(crate) fn value_over<S: Scale>(&self, x0: u32, x1: u32, wave: usize, reach: &Reach) -> Iv<S>
         requires wave { wave < length self.now.substrate }
         requires ordered { x0 ≤ x1 }
         requires units { x1 ≤ 40000 }
@@ -120,7 +152,9 @@ impl Dye {
         let dyeings = self.dyeings.as_slice();
         match &self.shape {
             Shape::Straight(slope) => slope.value_over(&self.substrate, dyeings, x0, x1, wave),
-            Shape::Broken(line) => line.value_over(&self.substrate, dyeings, x0, x1, wave),
+            Shape::Broken(line) => {
+                line.value_over(&self.substrate, dyeings, x0, x1, wave, reach)
+            }
         }
     }
 }

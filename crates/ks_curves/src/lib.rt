@@ -13,17 +13,21 @@ pub mod laws;
 mod near;
 mod node;
 mod nodes;
+mod piece;
+mod reach;
 mod shape;
 mod share;
 mod slope;
 
 pub use contributions::{
-    addition_range, addition_units, contribution, contribution_range, contribution_units,
+    addition_placed, addition_range, addition_range_placed, addition_units, contribution,
+    contribution_range, contribution_units,
 };
 pub use dye::Dye;
 pub use guessed::{quotient, quotient_up};
 pub use kind::Calibration;
 pub use kubelka_munk::ks;
+pub use reach::Places;
 
 #[cfg(test)]
 mod tests;

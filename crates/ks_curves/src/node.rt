@@ -2,7 +2,7 @@
 
 ghost use Rattle.std.specs.Prelude.{◌≡◌, ◌+◌, ◌*◌, ◌<◌, ◌≤◌, ℕ, pos};
 ghost use Rattle.interval_specs.specs.Rounding.{floor_over, ceil_over};
-ghost use Rattle.interval_specs.specs.Operations.{hull_of};
+ghost use Rattle.interval_specs.specs.Operations.{fraction_of, hull_of};
 ghost use Rattle.spectral_tables.specs.Spectrum.{ends_of};
 ghost use Rattle.ks_curves.specs.BrokenLine.{between_at};
 ghost use Rattle.ks_curves.specs.StoredNode.{node_of, past_over};
@@ -27,14 +27,19 @@ fn weigh(a: u64, b: u64, from_a: u32, to_b: u32) -> u128
 }
 
 /// The mean of `a` and `b`, each weighted by the distance of the other, rounded down. `inverse` is
-/// a guess at 2^64 over their distance.
+/// a guess at 2^64 over their distance. Where `b` is not less, the mean is `a` and a share of what
+/// `b` has more, which takes one multiplication less.
 #[inline(always)]
 fn mean_down(a: u64, b: u64, from_a: u32, to_b: u32, inverse: u64) -> u128
     requires { 0 < from_a + to_b }
     ensures { pos result ≡ floor_over (pos (a * to_b + b * from_a)) (from_a + to_b) }
 {
-    let sum = weigh(a, b, from_a, to_b);
     let distance = u64::from(from_a) + u64::from(to_b);
+    if a <= b {
+        let rise = u128::from(b - a) * u128::from(from_a);
+        return u128::from(a) + quotient(rise, distance, near_share(rise, inverse));
+    }
+    let sum = weigh(a, b, from_a, to_b);
     quotient(sum, distance, near_share(sum, inverse))
 }
 
@@ -44,8 +49,12 @@ fn mean_up(a: u64, b: u64, from_a: u32, to_b: u32, inverse: u64) -> u128
     requires { 0 < from_a + to_b }
     ensures { pos result ≡ ceil_over (pos (a * to_b + b * from_a)) (from_a + to_b) }
 {
-    let sum = weigh(a, b, from_a, to_b);
     let distance = u64::from(from_a) + u64::from(to_b);
+    if a <= b {
+        let rise = u128::from(b - a) * u128::from(from_a);
+        return u128::from(a) + quotient_up(rise, distance, near_share(rise, inverse));
+    }
+    let sum = weigh(a, b, from_a, to_b);
     quotient_up(sum, distance, near_share(sum, inverse))
 }
 
@@ -60,7 +69,7 @@ impl StoredNode {
 
     /// The lower end of the value at `x` units, from this node to a later one.
     #[inline(always)]
-    fn low_at(&self, later: &StoredNode, x: u32, inverse: u64) -> u128
+    pub(crate) fn low_at(&self, later: &StoredNode, x: u32, inverse: u64) -> u128
         requires rising { self.now.units < later.now.units }
         requires from { self.now.units ≤ x }
         requires to { x ≤ later.now.units }
@@ -77,7 +86,7 @@ impl StoredNode {
 
     /// The upper end of the value at `x` units, from this node to a later one.
     #[inline(always)]
-    fn high_at(&self, later: &StoredNode, x: u32, inverse: u64) -> u128
+    pub(crate) fn high_at(&self, later: &StoredNode, x: u32, inverse: u64) -> u128
         requires rising { self.now.units < later.now.units }
         requires from { self.now.units ≤ x }
         requires to { x ≤ later.now.units }
@@ -113,6 +122,28 @@ impl StoredNode {
         )
     }
 
+    /// The lower end of the value at `x` units on the line from the origin through this node.
+    #[inline(always)]
+    pub(crate) fn low_past(&self, x: u32, inverse: u64) -> u128
+        requires { 0 < self.now.units }
+        ensures { pos result
+            ≡ (fraction_of x (node_of self.now).units (node_of self.now).value).lo }
+    {
+        let low = u128::from(self.low) * u128::from(x);
+        quotient(low, u64::from(self.units), near_share(low, inverse))
+    }
+
+    /// The upper end of the same value.
+    #[inline(always)]
+    pub(crate) fn high_past(&self, x: u32, inverse: u64) -> u128
+        requires { 0 < self.now.units }
+        ensures { pos result
+            ≡ (fraction_of x (node_of self.now).units (node_of self.now).value).hi }
+    {
+        let high = u128::from(self.high) * u128::from(x);
+        quotient_up(high, u64::from(self.units), near_share(high, inverse))
+    }
+
     /// The ends of the values over units from `x0` to `x1` on the line from the origin through this
     /// node, which does not fall.
     #[inline(always)]
@@ -120,12 +151,6 @@ impl StoredNode {
         requires { 0 < self.now.units }
         ensures { ends_of result ≡ past_over (node_of self.now) x0 x1 }
     {
-        let units = u64::from(self.units);
-        let low = u128::from(self.low) * u128::from(x0);
-        let high = u128::from(self.high) * u128::from(x1);
-        (
-            quotient(low, units, near_share(low, inverse)),
-            quotient_up(high, units, near_share(high, inverse)),
-        )
+        (self.low_past(x0, inverse), self.high_past(x1, inverse))
     }
 }

@@ -1,15 +1,17 @@
 //! The nodes of a broken line at a wavelength.
 
-ghost use Rattle.std.specs.Prelude.{◌≡◌, ◌+◌, ◌<◌, ◌≤◌, ◌↔◌, ℕ, IsTrue, None, length, map, option_map};
+ghost use Rattle.std.specs.Prelude.{◌≡◌, ◌+◌, ◌<◌, ◌≤◌, ◌↔◌, ℕ, pos, IfSome, IsTrue, None, length, map, option_map};
 ghost use Rattle.interval_specs.specs.Operations.{hull_of};
 ghost use Rattle.spectral_tables.specs.Spectrum.{ends_of};
 ghost use Rattle.ks_curves.specs.BrokenLine.{broken_over, origin};
 ghost use Rattle.ks_curves.specs.Order.{place_by, put_by};
-ghost use Rattle.ks_curves.specs.StoredNode.{AreNodes, HasUnits, node_of};
+ghost use Rattle.ks_curves.specs.StoredNode.{AreNodes, Climb, HasUnits, node_of};
 ghost use Rattle.ks_curves.specs.Walk.{joined_ends, over_from};
 
 use crate::near::near_inverse;
 use crate::node::StoredNode;
+use crate::piece::{high_at, low_at};
+use crate::reach::{Place, Reach};
 use arrayvec::ArrayVec;
 use std::marker::Model;
 
@@ -17,20 +19,23 @@ use std::marker::Model;
 /// of the last node from the origin.
 pub(crate) type Inverses = [u64; 9];
 
-/// Nodes in rising order of their units.
+/// Nodes in rising order of their units. Where `rises` is set, neither end of their values falls.
 #[derive(Drop)]
 pub(crate) struct Nodes {
     list: ArrayVec<StoredNode, 8>,
+    rises: bool,
 }
 
 impl Model for Nodes {
-    ghost use Rattle.std.specs.Prelude.{List, map};
-    ghost use Rattle.ks_curves.specs.BrokenLine.{Node};
-    ghost use Rattle.ks_curves.specs.StoredNode.{node_of};
+    ghost use Rattle.std.specs.Prelude.{IsTrue, List, map};
+    ghost use Rattle.ks_curves.specs.BrokenLine.{Node, origin};
+    ghost use Rattle.ks_curves.specs.StoredNode.{Climb, node_of};
 
     ghost Value = { List Node };
 
     ghost view = { λ n. map node_of n.list.items };
+
+    ghost invariant = { λ n. IsTrue n.rises → Climb origin (map node_of n.list.items) };
 }
 
 /// No node.
@@ -42,6 +47,7 @@ impl Default for Nodes {
     fn default() -> Nodes {
         Nodes {
             list: ArrayVec::new(),
+            rises: true,
         }
     }
 }
@@ -75,7 +81,7 @@ fn inverse(inverses: &Inverses, i: usize) -> u64 {
 }
 
 /// The ends of the values over units from `x0` to `x1` on the line through nodes, piece by piece.
-#[inline(always)]
+#[inline(never)]
 fn value_over(nodes: &[StoredNode], x0: u32, x1: u32, inverses: &Inverses) -> (u128, u128)
     requires nodes { AreNodes (map node_of nodes.now) }
     requires ordered { x0 ≤ x1 }
@@ -124,6 +130,20 @@ fn is_at(nodes: &[StoredNode], i: usize, units: u32) -> bool
     }
 }
 
+/// Whether neither end of the values falls from node to node.
+fn climb(nodes: &[StoredNode]) -> bool
+    ensures { IsTrue result → Climb origin (map node_of nodes.now) }
+{
+    let mut before = StoredNode::default();
+    for node in nodes {
+        if node.low < before.low || node.high < before.high {
+            return false;
+        }
+        before = *node;
+    }
+    true
+}
+
 impl Nodes {
     /// Puts a node among the others, if none has its units.
     pub(crate) fn put(&mut self, node: StoredNode)
@@ -135,6 +155,7 @@ impl Nodes {
         let place = place(nodes, node.units);
         if !is_at(nodes, place, node.units) {
             self.list.insert(place, node);
+            self.rises = climb(self.list.as_slice());
         }
     }
 
@@ -152,16 +173,37 @@ impl Nodes {
         inverses
     }
 
-    /// The ends of the least interval that holds the values over units from `x0` to `x1`.
+    /// A guess at the piece on which these units lie.
+    pub(crate) fn place(&self, units: u32, inverses: &Inverses) -> Place {
+        let node = place(self.list.as_slice(), units);
+        Place {
+            node,
+            inverse: inverse(inverses, node),
+        }
+    }
+
+    /// The ends of the least interval that holds the values over units from `x0` to `x1`. `reach`
+    /// is a guess at the pieces on which both lie.
     #[inline(always)]
-    pub(crate) fn value_over(&self, x0: u32, x1: u32, inverses: &Inverses) -> (u128, u128)
+    pub(crate) fn value_over(
+        &self,
+        x0: u32,
+        x1: u32,
+        reach: &Reach,
+        inverses: &Inverses,
+    ) -> (u128, u128)
         requires nodes { AreNodes self.now }
         requires ordered { x0 ≤ x1 }
         ensures { ends_of result ≡ broken_over self.now x0 x1 }
     {
-        if x1 == 0 {
-            return (0, 0);
+        let nodes = self.list.as_slice();
+        if self.rises || x0 == x1 {
+            let low = low_at(nodes, x0, reach.first);
+            let high = high_at(nodes, x1, reach.last);
+            if let (Some(low), Some(high)) = (low, high) {
+                return (low, high);
+            }
         }
-        value_over(self.list.as_slice(), x0, x1, inverses)
+        value_over(nodes, x0, x1, inverses)
     }
 }

@@ -4,7 +4,7 @@ ghost use Rattle.std.specs.Prelude.{◌≡◌, ◌≤◌, length};
 ghost use Rattle.mix_model.specs.Mixture.{HaveSteps, doses_of, no_steps};
 
 use arrayvec::ArrayVec;
-use ks_curves::Dye;
+use ks_curves::{Dye, Places};
 
 /// An addition of `from` to `upto` units of a dye, where `bath` units of it are on the cloth. A unit
 /// is 0.001 percent of the weight of the cloth.
@@ -43,4 +43,18 @@ pub fn no_steps(dyes: &[Dye]) -> ArrayVec<u16, 12>
         steps.push(0);
     }
     steps
+}
+
+/// Where each dose lies on the line of its dye.
+pub(crate) fn places_of(dyes: &[Dye], doses: &[Dose]) -> ArrayVec<Places, 12>
+    requires few { length dyes.now ≤ 12 }
+    requires doses { length doses.now ≡ length dyes.now }
+    ensures { length result.items ≡ length dyes.now }
+{
+    let mut places = ArrayVec::new();
+    for (i, dye) in dyes.iter().enumerate() {
+        let dose = doses[i];
+        places.push(dye.places(dose.bath, dose.from, dose.upto));
+    }
+    places
 }

@@ -5,7 +5,7 @@ ghost use Rattle.mix_model.specs.Mixture.{CanDose, dosed};
 ghost use Rattle.mix_model.specs.Strength.{is_too_strong};
 
 use crate::base::BaseCurve;
-use crate::dose::Dose;
+use crate::dose::{Dose, places_of};
 use crate::sums::sum_at;
 use fix_bounds::{Base, Scale};
 use ks_curves::Dye;
@@ -20,8 +20,9 @@ pub fn is_too_strong(base: &BaseCurve<Base>, dyes: &[Dye], doses: &[Dose]) -> bo
     requires { CanDose (length base.now) dyes.now doses.now }
     ensures { result ≡ is_too_strong base.now (dosed dyes.now doses.now) }
 {
+    let places = places_of(dyes, doses);
     for wave in 0..base.waves() {
-        if sum_at(base, dyes, doses, wave).hi() > STRONGEST * Base::UNIT {
+        if sum_at(base, dyes, doses, places.as_slice(), wave).hi() > STRONGEST * Base::UNIT {
             return true;
         }
     }

@@ -9,11 +9,11 @@ ghost use Rattle.mix_model.specs.Narrowing.{CanNarrow, narrowed_at, replaced};
 ghost use Rattle.mix_model.specs.Sums.{AreNarrowed, AreOfRange, AreSums, IsSubrange};
 
 use crate::base::BaseCurve;
-use crate::dose::{Dose, doses_of};
+use crate::dose::{Dose, doses_of, places_of};
 use crate::reflectance::reflect;
 use arrayvec::ArrayVec;
 use fix_bounds::{Iv, Scale};
-use ks_curves::{Dye, addition_range, addition_units};
+use ks_curves::{Dye, Places, addition_placed, addition_range_placed};
 use spectral_tables::{MOST_WAVES, Spectrum};
 use std::marker::Model;
 
@@ -39,14 +39,16 @@ impl<S: Scale> Model for Sums<S> {
     ghost invariant = { λ s. AreSums S.unit s.ends.items };
 }
 
-/// The sum at a wavelength.
+/// The sum at a wavelength. The places of the doses were found before, for all wavelengths.
 pub(crate) fn sum_at<S: Scale>(
     base: &BaseCurve<S>,
     dyes: &[Dye],
     doses: &[Dose],
+    places: &[Places],
     wave: usize,
 ) -> Iv<S>
     requires wave { wave < length base.now }
+    requires placed { length places.now ≡ length dyes.now }
     requires adds { CanDose (length base.now) dyes.now doses.now }
     ensures is { slice_get (mixture_ks_at S.unit base.now (dosed dyes.now doses.now)) wave
         ≡ Some result }
@@ -55,7 +57,7 @@ pub(crate) fn sum_at<S: Scale>(
     let mut sum = base.at(wave);
     for (i, dye) in dyes.iter().enumerate() {
         let dose = doses[i];
-        sum = sum.add(addition_units(dye, dose.bath, dose.from, dose.upto, wave));
+        sum = sum.add(addition_placed(dye, dose.bath, dose.from, dose.upto, wave, &places[i]));
     }
     sum
 }
@@ -71,7 +73,8 @@ fn replaced<S: Scale>(sum: Iv<S>, old: Iv<S>, new: Iv<S>) -> Iv<S>
     )
 }
 
-/// The sum at a wavelength with `new` steps of a dye in place of `old` ones.
+/// The sum at a wavelength with `new` steps of a dye in place of `old` ones. The places of both were
+/// found before, for all wavelengths.
 fn narrowed_at<S: Scale>(
     sum: Iv<S>,
     dye: &Dye,
@@ -79,12 +82,13 @@ fn narrowed_at<S: Scale>(
     old: (u16, u16),
     new: (u16, u16),
     wave: usize,
+    places: &(Places, Places),
 ) -> Iv<S>
     requires { CanNarrow S.unit sum dye.now wave bath old new }
     ensures { result ≡ narrowed_at S.unit sum dye.now wave bath old new }
 {
-    let before = addition_range(dye, bath, old.0, old.1, wave);
-    let after = addition_range(dye, bath, new.0, new.1, wave);
+    let before = addition_range_placed(dye, bath, old.0, old.1, wave, &places.0);
+    let after = addition_range_placed(dye, bath, new.0, new.1, wave, &places.1);
     replaced(sum, before, after)
 }
 
@@ -107,9 +111,10 @@ impl<S: Scale> Sums<S> {
         ensures is { result ≡ mixture_ks_at S.unit base.now (dosed dyes.now doses.now) }
         ensures held { AreSums S.unit result }
     {
+        let places = places_of(dyes, doses);
         let mut ends = ArrayVec::new();
         for wave in 0..base.waves() {
-            ends.push(sum_at(base, dyes, doses, wave));
+            ends.push(sum_at(base, dyes, doses, places.as_slice(), wave));
         }
         Sums { ends }
     }
@@ -130,10 +135,14 @@ impl<S: Scale> Sums<S> {
     {
         let part = &dyes[dye];
         let steps = bath[dye];
+        let places = (
+            part.places_of_steps(steps, old.0, old.1),
+            part.places_of_steps(steps, new.0, new.1),
+        );
         let mut ends = ArrayVec::new();
         for wave in 0..self.ends.len() {
             let sum = self.ends.as_slice()[wave];
-            ends.push(narrowed_at(sum, part, steps, old, new, wave));
+            ends.push(narrowed_at(sum, part, steps, old, new, wave, &places));
         }
         Sums { ends }
     }

@@ -13,14 +13,14 @@ here g c =
     turn (length c.args.base.now) c.args.dyes.now c.args.doses.now c.loop-i.i c.index-dyes-i.result (slice_index_or c.args.doses.now c.loop-i.i (record { bath = 0; from = 0; upto = 0 })) (record { bath = 0; from = 0; upto = 0 })
     c.requires.adds c.loop-i-test.true c.index-dyes-i.is refl
 
-pub addition_units-requires-clause-wave : goal.addition_units-requires-clause-wave
-addition_units-requires-clause-wave g c = let t = here g ((goal.at.addition_units-requires-clause-wave g c).After-index-dyes-i) in omega (arith, t.can.waves, c.requires.wave)
+pub addition_placed-requires-clause-wave : goal.addition_placed-requires-clause-wave
+addition_placed-requires-clause-wave g c = let t = here g ((goal.at.addition_placed-requires-clause-wave g c).After-index-dyes-i) in omega (arith, t.can.waves, c.requires.wave)
 
-pub addition_units-requires-clause-ordered : goal.addition_units-requires-clause-ordered
-addition_units-requires-clause-ordered g c = (here g ((goal.at.addition_units-requires-clause-ordered g c).After-index-dyes-i)).can.ordered
+pub addition_placed-requires-clause-ordered : goal.addition_placed-requires-clause-ordered
+addition_placed-requires-clause-ordered g c = (here g ((goal.at.addition_placed-requires-clause-ordered g c).After-index-dyes-i)).can.ordered
 
-pub addition_units-requires-clause-units : goal.addition_units-requires-clause-units
-addition_units-requires-clause-units g c = (here g ((goal.at.addition_units-requires-clause-units g c).After-index-dyes-i)).can.units
+pub addition_placed-requires-clause-units : goal.addition_placed-requires-clause-units
+addition_placed-requires-clause-units g c = (here g ((goal.at.addition_placed-requires-clause-units g c).After-index-dyes-i)).can.units
 
 pub loop-i-preserved : goal.loop-i-preserved
 loop-i-preserved g c =
@@ -29,8 +29,8 @@ loop-i-preserved g c =
     let t = here g ((goal.at.loop-i-preserved g c).After-index-dyes-i) in
     let total = sum_of c.at-sum.result (contributions_at n c.args.wave ps) in
     record {
-      so_far = rw c.add-sum.ensures.is (sum_more n c.args.wave ps c.loop-i.i _ c.loop-i.sum c.addition_units.result total t.in_list t.is c.addition_units.ensures.is c.loop-i.invariant.so_far);
-      range = rw c.add-sum.ensures.is (range_next n c.loop-i.i c.loop-i.sum c.addition_units.result c.loop-i.invariant.range c.addition_units.ensures.range);
+      so_far = rw c.add-sum.ensures.is (sum_more n c.args.wave ps c.loop-i.i _ c.loop-i.sum c.addition_placed.result total t.in_list t.is c.addition_placed.ensures.is c.loop-i.invariant.so_far);
+      range = rw c.add-sum.ensures.is (range_next n c.loop-i.i c.loop-i.sum c.addition_placed.result c.loop-i.invariant.range c.addition_placed.ensures.range);
     }
 
 pub returns-clause-is : goal.returns-clause-is

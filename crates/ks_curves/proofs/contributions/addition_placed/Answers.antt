@@ -2,7 +2,7 @@ use Rattle.std.proofs.Common.{◌*◌, ◌^◌, ◌∙◌, sym}
 use Rattle.interval_specs.specs.Operations.{difference_of}
 use Rattle.interval_specs.proofs.Ranges.{carry_magnitude, difference_within}
 use Rattle.ks_curves.proofs.ContributionLaws.{line_addition, no_addition, broken_addition}
-use Rattle.ks_curves.proofs.contributions.addition_units.Goals as goal
+use Rattle.ks_curves.proofs.contributions.addition_placed.Goals as goal
 
 pub returns-in-Line-clause-is : goal.returns-in-Line-clause-is
 returns-in-Line-clause-is g c =
