@@ -9,13 +9,14 @@ use Rattle.std.proofs.lemmas.List.{length-set}
 use Rattle.box_specs.specs.declared.certificate.CertLine.{CertLine}
 use Rattle.box_specs.specs.declared.certificate.CertLine.TheVariants.{Dear}
 use Rattle.box_specs.specs.Canonical.{IsPart, is_judged, line_of, lines}
+use Rattle.box_specs.specs.Judgements.{is_open, is_passing, is_undecided}
 use Rattle.box_specs.specs.Landscape.{IsLawful, IsSound, Land, is_final, judgement}
 use Rattle.box_specs.specs.Span.{IsInside, IsWithin, Span}
 use Rattle.box_specs.specs.Splits.{cut_of, lower_half, upper_half}
 use Rattle.box_specs.proofs.Spans.{within_inside}
 use Rattle.box_specs.specs.Tree.{Spot, Tree, count, fork, leaf, rank, root, spot_cmp, spot_of, tree_of}
 use Rattle.box_specs.specs.Validity.{is_pass_line, is_undecided_line}
-use Rattle.box_search.specs.Answers.{IsShown, halves_by, is_open, is_passing, is_undecided, next_recipes}
+use Rattle.box_search.specs.Answers.{IsShown, halves_by, next_recipes}
 use Rattle.box_specs.proofs.Tests.{less_unless}
 use Rattle.box_search.specs.Found.{IsEnd, need_for}
 use Rattle.box_search.specs.declared.found.End.{End}

@@ -13,7 +13,7 @@ use Rattle.box_specs.specs.Splits.{CutAt, cut_of, lower_half, upper_half}
 use Rattle.box_specs.specs.Tree.{Spot}
 use Rattle.box_specs.specs.Validity.{is_pass_line, is_undecided_line}
 use Rattle.box_specs.proofs.Cuts.{cut_fits, from_lower, from_upper, lower_is_box, upper_is_box}
-use Rattle.box_search.specs.Answers.{is_open, is_passing, is_undecided}
+use Rattle.box_specs.specs.Judgements.{is_open, is_passing, is_undecided}
 use Rattle.box_search.specs.State.{with_entry}
 use Rattle.box_search.specs.Places.{at, place, place_cmp}
 use Rattle.box_search.specs.declared.place.Place.{Place}

@@ -1,8 +1,8 @@
 -- What is done with a box once it is judged, and what a search has found when it ends.
-use Rattle.std.specs.Prelude.{◌+◌, ◌*◌, ◌≤◌, ℕ, Bool, true, false, Option, Some, None, List, [], ◌∷◌, ◌++◌, length, if◌then◌else◌}
+use Rattle.std.specs.Prelude.{◌+◌, ◌*◌, ◌≤◌, ℕ, Bool, Option, Some, None, List, [], ◌∷◌, ◌++◌, length, if◌then◌else◌}
 use Rattle.box_specs.specs.declared.judged.Judged.{Judged}
-use Rattle.box_specs.specs.declared.judged.Judged.TheVariants.{Fail, Limit, Pass, StillOpen, Undecided}
 use Rattle.box_specs.specs.Canonical.{canonical_lines, is_judged}
+use Rattle.box_specs.specs.Judgements.{is_open}
 use Rattle.box_specs.specs.Landscape.{Land}
 use Rattle.box_specs.specs.Span.{Span}
 use Rattle.box_specs.specs.Tree.{tree_of}
@@ -13,27 +13,6 @@ use Rattle.box_search.specs.Nodes.{Shows}
 use Rattle.box_search.specs.Waiting.{WaitingBox}
 use Rattle.box_search.specs.declared.frontier.Halves.{Halves}
 use Rattle.box_search.specs.declared.nodes.Node.{Node}
-
-abbrev pub is_open : Judged → Bool
-is_open (Limit k) = false
-is_open (Fail j) = false
-is_open StillOpen = true
-is_open Pass = false
-is_open Undecided = false
-
-abbrev pub is_undecided : Judged → Bool
-is_undecided (Limit k) = false
-is_undecided (Fail j) = false
-is_undecided StillOpen = false
-is_undecided Pass = false
-is_undecided Undecided = true
-
-abbrev pub is_passing : Judged → Bool
-is_passing (Limit k) = false
-is_passing (Fail j) = false
-is_passing StillOpen = false
-is_passing Pass = true
-is_passing Undecided = false
 
 -- the halves of a box that is judged open
 abbrev pub halves_by : Land → ℕ → Span → ℕ → Judged → Option (Halves WaitingBox)

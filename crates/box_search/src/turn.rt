@@ -3,12 +3,13 @@
 ghost use Rattle.std.specs.Prelude.{◌≡◌, ◌<◌, ◌≤◌, ◌^◌, IfOk, None, OnErr, OnOk, false, length};
 ghost use Rattle.box_specs.specs.Canonical.{line_by, line_of};
 ghost use Rattle.box_specs.specs.declared.judged.Judged.TheVariants.{StillOpen};
+ghost use Rattle.box_specs.specs.Judgements.{is_open, is_passing, is_undecided};
 ghost use Rattle.box_specs.specs.Landscape.{IsSound, judgement};
 ghost use Rattle.box_specs.specs.Span.{is_single, lists};
 ghost use Rattle.box_specs.specs.Splits.{cut_of};
 ghost use Rattle.box_specs.specs.Tree.{Spot};
 ghost use Rattle.box_core.specs.Meter.{CountsOne};
-ghost use Rattle.box_search.specs.Answers.{halves_by, is_open, is_passing, is_undecided, next_recipes};
+ghost use Rattle.box_search.specs.Answers.{halves_by, next_recipes};
 ghost use Rattle.box_search.specs.Frontier.{halves_of, lower_of, waits_in, with_upper};
 ghost use Rattle.box_search.specs.Nodes.{write_at};
 ghost use Rattle.box_search.specs.Places.{at};

@@ -1,5 +1,6 @@
 pub mod Answer
 pub mod Canonical
+pub mod Judgements
 pub mod Landscape
 pub mod Meaning
 pub mod Order

@@ -1,5 +1,5 @@
 -- The walk over the lines of a tree, one line at a time.
-use Rattle.std.specs.Prelude.{◌≡◌, ◌≤◌, ◌+◌, ℕ, zero, suc, Bool, true, false, Option, Some, None, List, [], ◌∷◌, if◌then◌else◌}
+use Rattle.std.specs.Prelude.{◌≡◌, ◌≤◌, ◌+◌, ℕ, zero, suc, Bool, false, Option, Some, None, List, [], ◌∷◌, if◌then◌else◌}
 use Rattle.std.specs.List.{AllByRecursion}
 use Rattle.box_specs.specs.declared.certificate.CertLine.{CertLine}
 use Rattle.box_specs.specs.declared.certificate.CertLine.TheVariants.{Dear, Fail, Limit, Pass, Split, Undecided}
@@ -7,7 +7,7 @@ use Rattle.box_specs.specs.declared.certificate.Cutoff.{Cutoff}
 use Rattle.box_specs.specs.declared.certificate.Why.{Why}
 use Rattle.box_specs.specs.declared.certificate.Why.TheVariants.{NotPoint, WrongList}
 use Rattle.box_specs.specs.declared.judged.Judged.{Judged}
-use Rattle.box_specs.specs.declared.judged.Judged.TheVariants as judged
+use Rattle.box_specs.specs.Judgements.{is_passing, is_undecided}
 use Rattle.box_specs.specs.Landscape.{IsSound, Land}
 use Rattle.box_specs.specs.Span.{Span, is_single}
 use Rattle.box_specs.specs.Splits.{lower_half, upper_half}
@@ -46,20 +46,6 @@ recipe_if passes b = if passes then b.lo ∷ [] else []
 abbrev pub next_recipe : (CertLine → Bool) → List Span → CertLine → List (List ℕ)
 next_recipe test [] line = []
 next_recipe test (b ∷ waiting) line = recipe_if (test line) b
-
-abbrev pub is_undecided : Judged → Bool
-is_undecided (judged.Limit k) = false
-is_undecided (judged.Fail j) = false
-is_undecided judged.StillOpen = false
-is_undecided judged.Pass = false
-is_undecided judged.Undecided = true
-
-abbrev pub is_passing : Judged → Bool
-is_passing (judged.Limit k) = false
-is_passing (judged.Fail j) = false
-is_passing judged.StillOpen = false
-is_passing judged.Pass = true
-is_passing judged.Undecided = false
 
 -- a recipe is judged as its line says: undecided, or passing
 abbrev pub is_judged_as : CertLine → Judged → Bool
