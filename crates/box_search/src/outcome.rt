@@ -36,8 +36,8 @@ fn claim_of(end: End, matched: &[Steps]) -> Claim
 
 /// Looks for the first recipe, by cost and then by steps, that is admitted and passes. At most
 /// `budget` boxes are judged, in the order of cost and then steps of their lower corners, and of
-/// two boxes with one lower corner the larger first. At most one box is evaluated afresh: that of all
-/// recipes.
+/// two boxes with one lower corner the larger first. At most one box is evaluated afresh, that of
+/// all recipes.
 pub fn search<L: Carrying>(
     alloc: Global,
     land: &L,

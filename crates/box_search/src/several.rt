@@ -12,8 +12,8 @@ use std::alloc::{AllocError, Global};
 
 /// Looks for the first recipes, by cost and then by steps, that are admitted and pass, as many as
 /// are wanted. At most `budget` boxes are judged, in the order of cost and then steps of their lower
-/// corners, and of two boxes with one lower corner the larger first. At most one box is evaluated afresh: that of all
-/// recipes.
+/// corners, and of two boxes with one lower corner the larger first. At most one box is evaluated
+/// afresh, that of all recipes.
 pub fn search_several<L: Carrying>(
     alloc: Global,
     land: &L,

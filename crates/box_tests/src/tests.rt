@@ -167,7 +167,7 @@ fn searches_for_several(rt: HostRuntime) -> Result<(), Fail> {
     Ok(())
 }
 
-// A landscape of which nothing is carried is searched alike, and each of its boxes is judged afresh.
+// A landscape that carries nothing is searched alike, and each of its boxes is judged afresh.
 #[test]
 fn searches_afresh(rt: HostRuntime) -> Result<(), Fail> {
     let ladder = Ladder {

@@ -93,8 +93,8 @@ fn checked_of(failure: Option<(u32, Why)>) -> Checked
 }
 
 /// Checks a certificate. It is accepted exactly where it is valid, and then what it claims holds of
-/// the plain list of recipes. Else the result is the line of its first failure, and why it fails. At most one
-/// box is evaluated afresh: that of all recipes.
+/// the plain list of recipes. Else the result is the line of its first failure, and why it fails. At
+/// most one box is evaluated afresh, that of all recipes.
 pub fn check<L: Carrying>(
     alloc: Global,
     land: &L,

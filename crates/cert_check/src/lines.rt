@@ -101,7 +101,8 @@ fn split_at<L: Carrying>(
     requires held { L.stands land.now whole.now.held whole.now.part }
     requires part { IsSound (L.land land.now) whole.now.part }
     ensures fault { result.0 ≡ unless (splits whole.now.part dye mid) BadSplit None }
-    ensures halves { result.0 ≡ None → both_boxes result.1 ≡ halves_by whole.now.part (Split dye mid) }
+    ensures halves { result.0 ≡ None → both_boxes result.1
+        ≡ halves_by whole.now.part (Split dye mid) }
     ensures held { HalvesAreHeld (L.stands land.now) result.1 }
 {
     match carried::halves(land, whole, dye, mid) {
