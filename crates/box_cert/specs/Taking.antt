@@ -7,6 +7,7 @@ use Rattle.box_cert.specs.declared.fault.CertError.{CertError}
 use Rattle.box_cert.specs.declared.fault.CertError.TheVariants as errors
 use Rattle.box_cert.specs.declared.fault.TakeCertError.{TakeCertError}
 use Rattle.box_cert.specs.declared.fault.TakeCertError.TheVariants as reasons
+use Rattle.box_cert.specs.declared.read.TheConstants.{CERT_LIMIT}
 use Rattle.box_cert.specs.Spelling.{Content, content}
 use Rattle.box_cert.specs.Text.{cert_of}
 
@@ -32,7 +33,7 @@ IsFile contents name bytes = IfSome contents (λ c. c.file name ≡ Some bytes)
 pub record HasText (contents : Option Contents) (name : List ℕ) (dims : ℕ) (read : Result Content CertFault) : Type 0 where
   pub bytes : List ℕ
   pub file : IsFile contents name bytes
-  pub short : length bytes ≤ 64000000
+  pub short : length bytes ≤ CERT_LIMIT
   pub gives : cert_of dims bytes ≡ read
 
 -- the certificate or the fault of the text of a whole file, or that the file is too long; nothing is
@@ -40,6 +41,6 @@ pub record HasText (contents : Option Contents) (name : List ℕ) (dims : ℕ) (
 abbrev pub TakesCert : Option Contents → List ℕ → ℕ → Result Cert TakeCertError → Type 0
 TakesCert contents name dims (Ok cert) = HasText contents name dims (Ok (content cert))
 TakesCert contents name dims (Err (reasons.Grammar f)) = HasText contents name dims (Err f)
-TakesCert contents name dims (Err reasons.TooLong) = IfSome contents (λ c. IsSomeAnd (c.file name) (λ bytes. 64000000 < length bytes))
+TakesCert contents name dims (Err reasons.TooLong) = IfSome contents (λ c. IsSomeAnd (c.file name) (λ bytes. CERT_LIMIT < length bytes))
 TakesCert contents name dims (Err reasons.Fault) = Unit {0}
 TakesCert contents name dims (Err reasons.Memory) = Unit {0}

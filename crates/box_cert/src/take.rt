@@ -6,6 +6,7 @@ ghost use Rattle.shelf_io.specs.Counts.{CountsFailure};
 ghost use Rattle.box_cert.specs.Spelling.{content};
 ghost use Rattle.box_cert.specs.Taking.{TakesCert, is_fault, taken};
 ghost use Rattle.box_cert.specs.Text.{IsCertFor};
+ghost use Rattle.box_cert.specs.declared.read.TheConstants.{CERT_LIMIT};
 
 use crate::fault::{CertError, TakeCertError};
 use crate::feed::CertFeed;
@@ -45,7 +46,7 @@ pub fn take_cert<H: Shelf>(
     ensures fits { IfOk result (λ cert. IsCertFor dims (content cert)) }
 
     ensures effect { OnlyReads (λ n. n ≡ name.now) (H.view shelf.old) (H.view shelf.new) }
-    ensures handed { HandsOut name.now 64000001 (H.view shelf.old) (H.view shelf.new) }
+    ensures handed { HandsOut name.now (CERT_LIMIT + 1) (H.view shelf.old) (H.view shelf.new) }
     ensures counted { CountsFailure (is_fault result)
         ((H.view shelf.old).read_faults name.now) ((H.view shelf.new).read_faults name.now) }
     ensures promised { IsTrue ((H.view shelf.old).reads_promised name.now) →

@@ -7,4 +7,6 @@ mod lines;
 #[cfg(test)]
 mod long;
 #[cfg(test)]
+mod pieces;
+#[cfg(test)]
 mod texts;
