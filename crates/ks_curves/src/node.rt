@@ -101,6 +101,40 @@ impl StoredNode {
         )
     }
 
+    /// The lower end of the same value, without a division at either node.
+    #[inline(always)]
+    fn low_on(&self, later: &StoredNode, x: u32, inverse: u64) -> u128
+        requires rising { self.now.units < later.now.units }
+        requires from { self.now.units ≤ x }
+        requires to { x ≤ later.now.units }
+        ensures { pos result ≡ (between_at (node_of self.now) (node_of later.now) x).lo }
+    {
+        if x == self.units {
+            return u128::from(self.low);
+        }
+        if x == later.units {
+            return u128::from(later.low);
+        }
+        self.low_at(later, x, inverse)
+    }
+
+    /// The upper end of the same value, without a division at either node.
+    #[inline(always)]
+    fn high_on(&self, later: &StoredNode, x: u32, inverse: u64) -> u128
+        requires rising { self.now.units < later.now.units }
+        requires from { self.now.units ≤ x }
+        requires to { x ≤ later.now.units }
+        ensures { pos result ≡ (between_at (node_of self.now) (node_of later.now) x).hi }
+    {
+        if x == self.units {
+            return u128::from(self.high);
+        }
+        if x == later.units {
+            return u128::from(later.high);
+        }
+        self.high_at(later, x, inverse)
+    }
+
     /// The ends of the values over units from `x0` to `x1`, from this node to a later one. Each end
     /// is that at `x0` or at `x1`, as the line rises or falls.
     #[inline(always)]
@@ -117,8 +151,8 @@ impl StoredNode {
         let least = if self.low <= later.low { x0 } else { x1 };
         let greatest = if self.high <= later.high { x1 } else { x0 };
         (
-            self.low_at(later, least, inverse),
-            self.high_at(later, greatest, inverse),
+            self.low_on(later, least, inverse),
+            self.high_on(later, greatest, inverse),
         )
     }
 

@@ -23,4 +23,4 @@ returns c =
       | then-self-later-2 w ↦ ap (λ x. (between_at a b x).hi) w.greatest-is ∙ sym (high_rising a b c.args.x0 c.args.x1 r.rising r.from r.ordered r.to (let h = w.if-self-later-2 in omega (arith, ints)))
       | else-self-later-2 w ↦ ap (λ x. (between_at a b x).hi) w.greatest-is ∙ sym (high_falling a b c.args.x0 c.args.x1 r.rising r.from r.ordered r.to (let h = w.if-self-later-2 in omega (arith, ints)))
     ] in
-    same_ends _ _ (piece_over a b c.args.x0 c.args.x1) (c.low_at.ensures ∙ low) (c.high_at.ensures ∙ high)
+    same_ends _ _ (piece_over a b c.args.x0 c.args.x1) (c.low_on.ensures ∙ low) (c.high_on.ensures ∙ high)
