@@ -9,7 +9,7 @@ use Rattle.spectral_tables.proofs.SpectrumLaws.{spectrum_encloses}
 use Rattle.fix_bounds.specs.Ratios.{EnclosesRatios}
 use Rattle.tristimulus.specs.Ratios.{ratios_at}
 use Rattle.tristimulus.proofs.RatioLaws.{ratio_not_negative, ratios_enclose}
-use Rattle.dye_run.specs.Answers.{StandsFiner}
+use Rattle.run_core.specs.Answers.{StandsFiner}
 use Rattle.dye_run.specs.Colours.{curve_lab, curve_ratios}
 
 pub curve_ratios_enclose : (n m : ℕ) (weights : WeightTable) (curve : List ℕ) → EnclosesRatios m (curve_ratios weights curve n) (curve_ratios weights curve (m * n))

@@ -4,14 +4,14 @@ use Rattle.std.proofs.lemmas.List.Elements.{All-cons}
 use Rattle.interval_specs.specs.Ends.{Ends}
 use Rattle.interval_specs.specs.Encloses.{Encloses}
 use Rattle.spectral_tables.specs.WeightTable.{WeightTable}
-use Rattle.dye_run.specs.Answers.{Evaluation, StandsFiner, evaluation}
+use Rattle.run_core.specs.Answers.{Evaluation, StandsFiner, evaluation}
 use Rattle.fix_bounds.specs.Scales.{base_unit}
 use Rattle.dye_run.specs.Coordinates.{coordinates_report}
 use Rattle.dye_run.specs.Inputs.{Tables, curve_from}
-use Rattle.dye_run.specs.Outcome.{outcome_of}
+use Rattle.run_core.specs.Outcome.{outcome_of}
 use Rattle.dye_run.specs.Words.{LitColumn}
 use Rattle.dye_run.proofs.Colours.{no_more}
-use Rattle.dye_run.proofs.Proper.{IsProper, proper_report, proper_then}
+use Rattle.run_core.proofs.Proper.{IsProper, proper_report, proper_then}
 use Rattle.dye_run.proofs.Verdicts.{stands}
 
 abbrev pub KeepsFiner : (ℕ → Ends) → Type 0

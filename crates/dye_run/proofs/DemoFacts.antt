@@ -17,17 +17,17 @@ use Rattle.job_file.specs.declared.job.Job.{Job}
 use Rattle.job_file.specs.declared.top.BatchRule.TheVariants.{Without}
 use Rattle.shade_report.specs.Outcomes.{GoesWith}
 use Rattle.dye_run.specs.Check.{valid_from}
-use Rattle.dye_run.specs.Endings.{IsSearchable}
+use Rattle.run_core.specs.Endings.{IsSearchable}
 use Rattle.dye_run.specs.Files.{FitsFiles, IsShort}
 use Rattle.dye_run.specs.Inputs.{table_from}
 use Rattle.dye_run.specs.Jobs.{JobTables, job_from, job_tables_from, resolved_from, unless_broken, weights_after}
-use Rattle.dye_run.specs.Judging.{Gives, stop_outcome}
-use Rattle.dye_run.specs.Outcome.{Fault, Outcome, refused}
-use Rattle.dye_run.specs.Answers.{Report}
+use Rattle.run_core.specs.Judging.{Gives, stop_outcome}
+use Rattle.run_core.specs.Outcome.{Fault, Outcome, refused}
+use Rattle.run_core.specs.Answers.{Report}
 use Rattle.dye_run.specs.Demo.{matched_cost, summary_text}
 use Rattle.dye_run.specs.Search.{conclusion_of, result_for}
-use Rattle.dye_run.specs.Views.{bytes_view}
-use Rattle.dye_run.specs.declared.stop.Stop.{Stop}
+use Rattle.run_core.specs.Views.{bytes_view}
+use Rattle.run_core.specs.declared.stop.Stop.{Stop}
 use Rattle.dye_run.proofs.Headline.{is_valid}
 use Rattle.spectral_tables.specs.declared.records.TheConstants.{TABLE_LIMIT}
 

@@ -4,14 +4,14 @@ use Rattle.std.proofs.Common.{◌*◌, ℕ, List, [], ◌∷◌, Option, Some, N
 use Rattle.std.proofs.lemmas.List.Elements.{All-cons}
 use Rattle.cmc_specs.proofs.Law.{any_colours_enclose}
 use Rattle.spectral_tables.specs.WeightTable.{WeightTable}
-use Rattle.dye_run.specs.Answers.{Evaluation, StandsFiner}
+use Rattle.run_core.specs.Answers.{Evaluation, StandsFiner}
 use Rattle.fix_bounds.specs.Scales.{base_unit}
 use Rattle.dye_run.specs.Colours.{curve_lab}
 use Rattle.dye_run.specs.Diff.{DiffWords, curve_difference, difference_evaluation, difference_report, diff_report}
 use Rattle.dye_run.specs.Inputs.{Tables, curve_from}
-use Rattle.dye_run.specs.Outcome.{outcome_of, reported}
+use Rattle.run_core.specs.Outcome.{outcome_of, reported}
 use Rattle.dye_run.proofs.Colours.{curve_lab_encloses, no_more}
-use Rattle.dye_run.proofs.Proper.{IsProper, proper_report, proper_then}
+use Rattle.run_core.proofs.Proper.{IsProper, proper_report, proper_then}
 use Rattle.dye_run.proofs.Verdicts.{stands}
 
 difference_stands : (words : DiffWords) (weights : WeightTable) (standard sample : List ℕ) → All StandsFiner (difference_evaluation words weights standard sample ∷ [])

@@ -1,13 +1,13 @@
 -- The outcome of a command over known files.
 use Rattle.std.proofs.Common.{◌≡◌, ℕ, List, Option, Some, None, IfSome, IsSomeAnd, Result, Ok, Err, refl, sym, ap, ◌∙◌, subst}
 use Rattle.shelf_io.specs.Contents.{Contents}
-use Rattle.dye_run.specs.Answers.{Report}
-use Rattle.dye_run.specs.Asking.{reports_on}
-use Rattle.dye_run.specs.Due.{CanBeRead, up_to_limit}
-use Rattle.dye_run.specs.Inputs.{◌>>=◌}
-use Rattle.dye_run.specs.Outcome.{Fault, Outcome, outcome_of, refused, reported}
-use Rattle.dye_run.specs.Reading.{Gets, Reading, asks, held_or_missing, makes, result_of}
-use Rattle.dye_run.proofs.Readings.{then_got}
+use Rattle.run_core.specs.Answers.{Report}
+use Rattle.run_core.specs.Asking.{reports_on}
+use Rattle.run_core.specs.Due.{CanBeRead, up_to_limit}
+use Rattle.run_core.specs.Asking.{◌>>=◌}
+use Rattle.run_core.specs.Outcome.{Fault, outcome_of, refused, reported}
+use Rattle.run_core.specs.Reading.{Gets, Reading, asks, held_or_missing, makes, result_of}
+use Rattle.run_core.proofs.Readings.{then_got}
 
 known_bytes_read : {X : Type 0} (file : Option (List ℕ)) (name : List ℕ) (limit : ℕ) (bytes_read : Option (List ℕ)) (go : Option (List ℕ) → Result X (List ℕ)) → IsSomeAnd file (λ bytes. bytes_read ≡ up_to_limit limit bytes)
     → held_or_missing name file (λ bytes. go (up_to_limit limit bytes)) ≡ go bytes_read

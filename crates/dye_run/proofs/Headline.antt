@@ -27,28 +27,29 @@ use Rattle.job_file.specs.declared.top.BatchRule.TheVariants.{Either}
 use Rattle.recipe_judge.specs.Recipes.{recipe_land}
 use Rattle.shade_report.specs.Outcomes.{accepted_text}
 use Rattle.shelf_io.specs.Contents.{Contents, write_bytes}
-use Rattle.dye_run.specs.Answers.{Report}
-use Rattle.dye_run.specs.Asking.{reports_on}
+use Rattle.run_core.specs.Answers.{Report}
+use Rattle.run_core.specs.Asking.{reports_on}
 use Rattle.dye_run.specs.Check.{accepted_report, cert_from, check_report, check_rule, unless_failing, unless_misspelled, valid_from}
-use Rattle.dye_run.specs.Commands.{Task, asking_by, asking_of, confirms, finds, summarises, task_of}
+use Rattle.dye_run.specs.Commands.{Task, asking_by, asking_of, confirms, finds, plan_for, plan_of, summarises, task_of}
 use Rattle.dye_run.specs.Demo.{demo_job, demo_report, summary_text}
-use Rattle.dye_run.specs.Due.{CanBeRead, up_to_limit}
-use Rattle.dye_run.specs.Endings.{IsSearchable, Leaves, World, with_written}
+use Rattle.run_core.specs.Due.{CanBeRead, up_to_limit}
+use Rattle.run_core.specs.Endings.{IsSearchable, Leaves, World, with_written}
 use Rattle.dye_run.specs.Forms.{check, form_of}
 use Rattle.dye_run.specs.Headline.{Confirms, Finds, IsJobOfFiles, IsSearchStatus, SaysOfRecipes, Summarises, TellsExactly}
-use Rattle.dye_run.specs.Inputs.{◌>>=◌, due_table}
+use Rattle.run_core.specs.Asking.{◌>>=◌}
+use Rattle.dye_run.specs.Inputs.{due_table}
 use Rattle.dye_run.specs.Jobs.{JobRead, due_cert, job_files, job_from, light_files, reads_job, text_from, unless_broken}
-use Rattle.dye_run.specs.Outcome.{conclusion_status, grammar, invalid, outcome_of, reported, too_long}
-use Rattle.dye_run.specs.Outcome as outcome
-use Rattle.dye_run.specs.Reading.{DueFile, Gets, each_file, makes}
+use Rattle.run_core.specs.Outcome.{conclusion_status, grammar, invalid, outcome_of, reported, too_long}
+use Rattle.run_core.specs.Outcome as outcome
+use Rattle.run_core.specs.Reading.{DueFile, Gets, each_file, makes}
 use Rattle.dye_run.specs.Search.{conclusion_of, result_for, result_report, search_report}
-use Rattle.dye_run.specs.Statuses as table
+use Rattle.run_core.specs.Statuses as table
 use Rattle.dye_run.specs.Words.{CertWords}
 use Rattle.box_cert.proofs.CertForm.{cert_tree}
 use Rattle.dye_run.proofs.FilesKnown.{ok_next, reported_on, result_from}
 use Rattle.dye_run.proofs.FormWords.{AreCertWords, KeepsWords, ends_as_cert, form_keeps, mapped}
 use Rattle.dye_run.proofs.JobsRead.{job_again, job_alone, pieces_of, text_read}
-use Rattle.dye_run.proofs.Readings.{got_then, then_got}
+use Rattle.run_core.proofs.Readings.{got_then, then_got}
 use Rattle.dye_run.proofs.ShowLaws.{differences_enclose, recipe_evaluated}
 use Rattle.job_laws.proofs.Accepted.{files_are_no_certs}
 use Rattle.job_laws.proofs.Either.{accepts_either}
@@ -307,16 +308,16 @@ found_kind status (inl e) = ap table.kind_of e
 found_kind status (inr (inl e)) = ap table.kind_of e
 found_kind status (inr (inr e)) = ap table.kind_of e
 
-module _ (ws : List (List ℕ)) (before after : World) (status : ℕ) (tells : table.StatusTells (form_of ws) before after status) where
-  report_of : table.kind_of status ≡ table.report → table.IsReport (form_of ws) before after status
-  report_of e = subst (λ k. table.Tells (form_of ws) before after k status) e tells.tells
+module _ (ws : List (List ℕ)) (before after : World) (status : ℕ) (tells : table.StatusTells (plan_for ws) before after status) where
+  report_of : table.kind_of status ≡ table.report → table.IsReport (plan_for ws) before after status
+  report_of e = subst (λ k. table.Tells (plan_for ws) before after k status) e tells.tells
 
   -- the words have the form of a task
   of_task : (t : Task) → option_map task_of (form_of ws) ≡ Some t → table.kind_of status ≡ table.report
       → (r : Report) × Gets before.shelf.contents (asking_by t) (reported r) × (conclusion_status r.conclusion ≡ status) × Leaves before after r.text r.written × IfSome r.recipes IsSearchable × KeepsWords t
   of_task t e h =
       let m = mapped task_of (form_of ws) t e in
-      let r = subst (λ f. table.IsReport f before after status) m.1 (report_of h) in (
+      let r = subst (λ f. table.IsReport (option_map plan_of f) before after status) m.1 (report_of h) in (
         r.report,
         subst (λ t. Gets before.shelf.contents (asking_by t) (reported r.report)) m.2 r.answers,
         r.status,

@@ -1,19 +1,19 @@
 -- The weights of a job's lights, one after the other.
-use Rattle.std.proofs.Common.{◌≡◌, ◌+◌, ◌<◌, ◌≤◌, ℕ, List, [], ◌∷◌, ◌++◌, length, drop, take, get_or, map, Option, Some, None, IfSome, Result, Ok, Err, sym, ap, ◌∙◌, add-one, arith}
+use Rattle.std.proofs.Common.{◌≡◌, ◌+◌, ◌<◌, ◌≤◌, ℕ, List, [], ◌∷◌, ◌++◌, length, drop, take, get_or, map, Option, Some, None, IfSome, Result, Ok, Err, sym, ap, ◌∙◌, add-one}
 use Rattle.std.specs.Global.{Vec}
 use Rattle.std.proofs.Math.Seq.{drop-cons, take-suc}
 use Rattle.std.proofs.lemmas.List.{drop_all, map-append}
 use Rattle.job_keys.specs.declared.light.JobLight.{JobLight}
-use Rattle.spectral_tables.specs.CurveBook.{Book, IsBook, wave_count}
 use Rattle.spectral_tables.specs.declared.grid.WaveGrid.TheVariants.{Ten}
 use Rattle.spectral_tables.specs.WeightFile.{weight_table_of}
-use Rattle.spectral_tables.specs.WeightTable.{IsWeightTable, WeightTable}
-use Rattle.dye_run.specs.Inputs.{◌>>=◌, due_table, table_from}
+use Rattle.spectral_tables.specs.WeightTable.{WeightTable}
+use Rattle.run_core.specs.Asking.{◌>>=◌}
+use Rattle.dye_run.specs.Inputs.{due_table, table_from}
 use Rattle.dye_run.specs.Jobs.{weights_after}
-use Rattle.dye_run.specs.Outcome.{Fault, Outcome, refused}
-use Rattle.dye_run.specs.Reading as reading
-use Rattle.dye_run.specs.Views.{bytes_view, due_view}
-use Rattle.dye_run.specs.declared.inputs.DueFile.{DueFile}
+use Rattle.run_core.specs.Outcome.{Fault, Outcome, refused}
+use Rattle.run_core.specs.Reading as reading
+use Rattle.run_core.specs.Views.{bytes_view, due_view}
+use Rattle.run_core.specs.declared.due_files.DueFile.{DueFile}
 
 -- the items from an index on are the item at the index and those after it
 pub items_from : {A : Type 0} (xs : List A) (k : ℕ) (x : A) → k < length xs → x ≡ get_or xs k x → drop k xs ≡ x ∷ drop (k + 1) xs

@@ -1,25 +1,25 @@
 -- A job that was read with its files, and the text of another file.
-use Rattle.std.proofs.Common.{◌≡◌, ◌≤◌, ◌+◌, ℕ, List, [], ◌∷◌, length, map, Option, Some, None, IfSome, All, Result, Ok, Err, refl, sym, ap, ◌∙◌, subst, inl, arith}
+use Rattle.std.proofs.Common.{◌≡◌, ◌≤◌, ℕ, List, [], ◌∷◌, length, map, Option, Some, None, IfSome, All, Result, Ok, Err, refl, sym, ap, ◌∙◌, subst, inl, arith}
 use Rattle.std.proofs.lemmas.List.Elements.{All-cons, All-nil}
 use Rattle.std.proofs.lemmas.List.{length-map}
 use Rattle.std.specs.Global.{Vec}
 use Rattle.job_file.specs.Job.{Values}
-use Rattle.job_file.specs.Resolve.{ResolvedJob}
 use Rattle.job_file.specs.declared.top.BatchRule.{BatchRule}
 use Rattle.shelf_io.specs.Contents.{Contents}
 use Rattle.shelf_io.specs.View.{ShelfView}
-use Rattle.dye_run.specs.Due.{CanBeRead}
+use Rattle.run_core.specs.Due.{CanBeRead}
 use Rattle.dye_run.specs.Files.{FitsFiles, IsShort}
 use Rattle.dye_run.specs.Headline.{IsJobOfFiles}
-use Rattle.dye_run.specs.Inputs.{◌>>=◌, due_table}
-use Rattle.dye_run.specs.Jobs.{Gathered, JobRead, JobTables, due_job, gathered_from, job_files, job_from, job_tables_from, read_from, reads_accepted, reads_gathered, reads_job, resolved_from, text_from, where_accepted}
-use Rattle.dye_run.specs.Judging.{IsMade, Refuses, StopsAs, stop_outcome}
-use Rattle.dye_run.specs.Outcome.{Fault, Outcome, refused, too_long}
-use Rattle.dye_run.specs.Reading.{DueFile, Gets, Reading, any_file, each_file, makes, then_reads}
-use Rattle.dye_run.specs.Views.{bytes_view}
-use Rattle.dye_run.specs.declared.stop.Stop.{Stop}
+use Rattle.run_core.specs.Asking.{◌>>=◌}
+use Rattle.dye_run.specs.Inputs.{due_table}
+use Rattle.dye_run.specs.Jobs.{Gathered, JobRead, JobTables, gathered_from, job_files, job_from, job_tables_from, read_from, reads_accepted, reads_gathered, reads_job, resolved_from, text_from, where_accepted}
+use Rattle.run_core.specs.Judging.{IsMade, Refuses, StopsAs, stop_outcome}
+use Rattle.run_core.specs.Outcome.{Fault, Outcome, refused, too_long}
+use Rattle.run_core.specs.Reading.{DueFile, Gets, Reading, any_file, each_file, makes, then_reads}
+use Rattle.run_core.specs.Views.{bytes_view}
+use Rattle.run_core.specs.declared.stop.Stop.{Stop}
 use Rattle.dye_run.proofs.FilesKnown.{ok_next}
-use Rattle.dye_run.proofs.Readings.{got_then, then_got}
+use Rattle.run_core.proofs.Readings.{got_then, then_got}
 use Rattle.spectral_tables.specs.declared.records.TheConstants.{TABLE_LIMIT}
 use Rattle.dye_run.specs.declared.jobs.TheConstants.{JOB_LIMIT}
 

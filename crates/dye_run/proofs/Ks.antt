@@ -6,12 +6,12 @@ use Rattle.interval_specs.specs.Ends.{Ends}
 use Rattle.ks_curves.specs.KubelkaMunk.{ks_at}
 use Rattle.ks_curves.proofs.ContributionLaws.{ks_encloses}
 use Rattle.spectral_tables.specs.CurveBook.{Book}
-use Rattle.dye_run.specs.Answers.{StandsFiner, evaluation, line, lines_of}
+use Rattle.run_core.specs.Answers.{StandsFiner, evaluation, line, lines_of}
 use Rattle.fix_bounds.specs.Scales.{base_unit}
 use Rattle.dye_run.specs.Inputs.{curve_from}
 use Rattle.dye_run.specs.Ks.{KsWords, ks_evaluations, ks_report}
-use Rattle.dye_run.specs.Outcome.{outcome_of}
-use Rattle.dye_run.proofs.Proper.{IsProper, proper_report, proper_then}
+use Rattle.run_core.specs.Outcome.{outcome_of}
+use Rattle.run_core.proofs.Proper.{IsProper, proper_report, proper_then}
 use Rattle.dye_run.proofs.Verdicts.{stands}
 
 ks_stands : (wavelength : ℕ) (curve : List ℕ) → All StandsFiner (ks_evaluations wavelength curve)

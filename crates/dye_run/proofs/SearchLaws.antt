@@ -6,12 +6,12 @@ use Rattle.box_search.specs.Result.{SearchResult}
 use Rattle.box_specs.specs.declared.certificate.Claim.{Claim}
 use Rattle.box_specs.specs.declared.certificate.Claim.TheVariants.{Floor, Match, NoMatch}
 use Rattle.job_file.specs.Resolve.{ResolvedJob}
-use Rattle.dye_run.specs.Answers.{StandsFiner}
+use Rattle.run_core.specs.Answers.{StandsFiner}
 use Rattle.dye_run.specs.Check.{cert_from, check_report, valid_from}
 use Rattle.dye_run.specs.Demo.{demo_report}
-use Rattle.dye_run.specs.Outcome.{outcome_of}
+use Rattle.run_core.specs.Outcome.{outcome_of}
 use Rattle.dye_run.specs.Search.{evaluations_of, matched_evaluations, result_for, search_report}
-use Rattle.dye_run.proofs.Proper.{IsProper, proper_report, proper_then}
+use Rattle.run_core.proofs.Proper.{IsProper, proper_report, proper_then}
 use Rattle.dye_run.proofs.ShowLaws.{lights_stand}
 
 recipe_stands : (r : ResolvedJob) (recipe : List ℕ) → All StandsFiner (evaluations_of r recipe)

@@ -24,14 +24,14 @@ use Rattle.spectral_tables.specs.WeightTable.{WeightTable}
 use Rattle.spectral_tables.proofs.SpectrumLaws.{spectrum_encloses}
 use Rattle.tristimulus.specs.Ratios.{ratios_at}
 use Rattle.tristimulus.proofs.RatioLaws.{ratio_not_negative, ratios_enclose}
-use Rattle.dye_run.specs.Answers.{StandsFiner}
+use Rattle.run_core.specs.Answers.{StandsFiner}
 use Rattle.fix_bounds.specs.Scales.{base_unit}
 use Rattle.dye_run.specs.Headline.{AreEvaluated, IsVerdictOf}
-use Rattle.dye_run.specs.Outcome.{outcome_of}
+use Rattle.run_core.specs.Outcome.{outcome_of}
 use Rattle.dye_run.specs.Search.{evaluations_of}
 use Rattle.dye_run.specs.Show.{ShowWords, light_evaluation, light_evaluations, recipe_from, recipe_values, show_report, verdicts_from}
 use Rattle.dye_run.proofs.Colours.{no_more}
-use Rattle.dye_run.proofs.Proper.{IsProper, proper_report, proper_then}
+use Rattle.run_core.proofs.Proper.{IsProper, proper_report, proper_then}
 use Rattle.dye_run.proofs.Verdicts.{stands}
 
 -- in the portions of one recipe, taken as a box, the least units are at most the most

@@ -4,7 +4,7 @@ use Rattle.std.proofs.Common.{ℕ, ◌*◌, ◌<◌, Option, Some, None, List}
 use Rattle.interval_specs.specs.Ends.{Ends}
 use Rattle.interval_specs.specs.Encloses.{Encloses}
 use Rattle.metamerism.proofs.VerdictLaws.{verdict_stays}
-use Rattle.dye_run.specs.Answers.{StandsFiner}
+use Rattle.run_core.specs.Answers.{StandsFiner}
 use Rattle.fix_bounds.specs.Scales.{base_unit}
 
 pub stands : (label : List ℕ) (at : ℕ → Ends) (tolerance : Option ℕ) → ((m : ℕ) → 0 < m → Encloses m (at base_unit) (at (m * base_unit))) → StandsFiner (record { label = label; at = at; tolerance = tolerance })

@@ -1,7 +1,7 @@
 -- The report of `xyz`: its enclosures hold those of every finer scale.
 use Rattle.std.proofs.Common.{◌<◌, ℕ, List, All}
 use Rattle.spectral_tables.specs.WeightTable.{WeightTable}
-use Rattle.dye_run.specs.Answers.{StandsFiner}
+use Rattle.run_core.specs.Answers.{StandsFiner}
 use Rattle.fix_bounds.specs.Scales.{base_unit}
 use Rattle.dye_run.specs.Xyz.{xyz_evaluations}
 use Rattle.dye_run.proofs.Colours.{curve_ratios_enclose}

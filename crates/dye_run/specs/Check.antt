@@ -11,10 +11,10 @@ use Rattle.job_file.specs.declared.top.BatchRule.TheVariants.{Either}
 use Rattle.job_file.specs.Resolve.{ResolvedJob}
 use Rattle.recipe_judge.specs.Recipes.{recipe_land}
 use Rattle.shade_report.specs.Outcomes.{accepted_text}
-use Rattle.dye_run.specs.Answers.{Report}
-use Rattle.dye_run.specs.Inputs.{◌>>=◌}
-use Rattle.dye_run.specs.Outcome.{Fault, grammar, invalid}
-use Rattle.dye_run.specs.declared.statuses.Conclusion.TheVariants.{NoVerdict}
+use Rattle.run_core.specs.Answers.{Report}
+use Rattle.run_core.specs.Asking.{◌>>=◌}
+use Rattle.run_core.specs.Outcome.{Fault, grammar, invalid}
+use Rattle.run_core.specs.declared.statuses.Conclusion.TheVariants.{NoVerdict}
 
 -- the job may have a batch or not
 abbrev pub check_rule : BatchRule

@@ -1,19 +1,20 @@
 -- What each command does: a table with a line for each form.
-use Rattle.std.specs.Prelude.{ℕ, List, Option, Some, None}
+use Rattle.std.specs.Prelude.{ℕ, List, Option, Some, None, option_map}
 use Rattle.job_file.specs.declared.top.BatchRule.{BatchRule}
 use Rattle.job_file.specs.declared.top.BatchRule.TheVariants.{With, Without}
-use Rattle.dye_run.specs.Asking.{Asking, reports_on}
+use Rattle.run_core.specs.Asking.{Asking, reports_on}
 use Rattle.dye_run.specs.Check.{check_report, check_rule}
 use Rattle.dye_run.specs.Coordinates.{coordinates_report}
 use Rattle.dye_run.specs.Demo.{demo_job, demo_report}
 use Rattle.dye_run.specs.Diff.{diff_report}
-use Rattle.dye_run.specs.Forms.{Form, check, correct, demo, diff, ks, lab, predict, show, xyz}
+use Rattle.dye_run.specs.Forms.{Form, check, correct, demo, diff, form_of, ks, lab, predict, show, xyz}
 use Rattle.dye_run.specs.Inputs.{reads_book, reads_tables}
 use Rattle.dye_run.specs.Jobs.{due_cert, reads_job}
 use Rattle.dye_run.specs.Ks.{ks_report}
 use Rattle.dye_run.specs.Lab.{lab_evaluations}
-use Rattle.dye_run.specs.Outcome.{outcome_of, usage}
-use Rattle.dye_run.specs.Reading.{makes}
+use Rattle.run_core.specs.Outcome.{outcome_of}
+use Rattle.run_core.specs.Plan.{Plan}
+use Rattle.run_core.specs.Reading.{makes}
 use Rattle.dye_run.specs.Search.{search_report}
 use Rattle.dye_run.specs.Show.{show_report, show_rule}
 use Rattle.dye_run.specs.Words.{CertWords}
@@ -57,11 +58,10 @@ written_for (summarises number) = None
 abbrev pub asking_of : Form → Asking
 asking_of form = asking_by (task_of form)
 
--- the same for words that may have no form
-abbrev pub asking_for : Option Form → Asking
-asking_for None = makes usage
-asking_for (Some form) = asking_of form
+-- what a command asks for and writes
+abbrev pub plan_of : Form → Plan
+plan_of form = record { asking = asking_of form; writes = written_for (task_of form) }
 
-abbrev pub written_by : Option Form → Option (List ℕ)
-written_by None = None
-written_by (Some form) = written_for (task_of form)
+-- the same for words that may have no form
+abbrev pub plan_for : List (List ℕ) → Option Plan
+plan_for words = option_map plan_of (form_of words)

@@ -1,9 +1,10 @@
 -- The report of a command on one column under a light.
 use Rattle.std.specs.Prelude.{ℕ, List, Result, Ok}
 use Rattle.spectral_tables.specs.WeightTable.{WeightTable}
-use Rattle.dye_run.specs.Answers.{Evaluation, Report, plain_report}
-use Rattle.dye_run.specs.Inputs.{◌>>=◌, Tables, curve_from}
-use Rattle.dye_run.specs.Outcome.{Fault}
+use Rattle.run_core.specs.Answers.{Evaluation, Report, plain_report}
+use Rattle.run_core.specs.Asking.{◌>>=◌}
+use Rattle.dye_run.specs.Inputs.{Tables, curve_from}
+use Rattle.run_core.specs.Outcome.{Fault}
 use Rattle.dye_run.specs.Words.{LitColumn}
 
 -- the report of the evaluations of a column under the light, from the curves and the weights of the

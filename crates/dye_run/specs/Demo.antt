@@ -8,8 +8,8 @@ use Rattle.demo_jobs.specs.Values.{resolved_of}
 use Rattle.job_file.specs.Resolve.{ResolvedJob}
 use Rattle.price_grid.specs.Cost.{cost_of}
 use Rattle.shade_report.specs.Outcomes.{demo_text}
-use Rattle.dye_run.specs.Answers.{Report}
-use Rattle.dye_run.specs.Outcome.{Fault}
+use Rattle.run_core.specs.Answers.{Report}
+use Rattle.run_core.specs.Outcome.{Fault}
 use Rattle.dye_run.specs.Search.{conclusion_of, result_for}
 use Rattle.dye_run.specs.Words.{number_in}
 

@@ -4,14 +4,15 @@ use Rattle.std.specs.Prelude.{ℕ, List, [], ◌∷◌, ◌++◌, ◌&&◌, code
 use Rattle.interval_specs.specs.Ends.{Ends}
 use Rattle.cmc_specs.specs.Cmc.{cmc_at}
 use Rattle.spectral_tables.specs.WeightTable.{WeightTable}
-use Rattle.dye_run.specs.Answers.{Evaluation, Report, line_of, plain_report, verdict_on}
+use Rattle.run_core.specs.Answers.{Evaluation, Report, line_of, plain_report, verdict_on}
 use Rattle.fix_bounds.specs.Scales.{base_unit}
 use Rattle.dye_run.specs.Colours.{curve_lab}
-use Rattle.dye_run.specs.Inputs.{◌>>=◌, Tables, curve_from}
-use Rattle.dye_run.specs.Outcome.{Fault}
+use Rattle.run_core.specs.Asking.{◌>>=◌}
+use Rattle.dye_run.specs.Inputs.{Tables, curve_from}
+use Rattle.run_core.specs.Outcome.{Fault}
 use Rattle.shade_report.specs.Recipes.{verdict_name}
 use Rattle.dye_run.specs.Words.{is_file_word, number_in}
-use Rattle.dye_run.specs.declared.statuses.Conclusion.TheVariants.{Judged}
+use Rattle.run_core.specs.declared.statuses.Conclusion.TheVariants.{Judged}
 
 -- the tolerance is in thousandths
 pub record DiffWords : Type 0 where

@@ -1,5 +1,5 @@
 -- The forms that the words of a command line may have.
-use Rattle.std.specs.Prelude.{ℕ, List, [], ◌∷◌, Option, Some, None, option_map, codes, if◌then◌else◌}
+use Rattle.std.specs.Prelude.{ℕ, List, [], ◌∷◌, Option, None, option_map, codes, if◌then◌else◌}
 use Rattle.std.specs.Str.{bytes_eq}
 use Rattle.dye_run.specs.Demo.{demo_words}
 use Rattle.dye_run.specs.Diff.{DiffWords, diff_words}

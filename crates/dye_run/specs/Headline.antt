@@ -25,17 +25,17 @@ use Rattle.shade_report.specs.Outcomes.{accepted_text, demo_text, outcome_text}
 use Rattle.shade_report.specs.Recipes.{RecipeValues, verdict_name}
 use Rattle.shelf_io.specs.Contents.{Contents}
 use Rattle.fix_bounds.specs.Scales.{base_unit}
-use Rattle.dye_run.specs.Answers.{Evaluation, verdict_on}
+use Rattle.run_core.specs.Answers.{Evaluation, verdict_on}
 use Rattle.dye_run.specs.Check.{accepted_report, check_rule}
 use Rattle.dye_run.specs.Commands as task
 use Rattle.dye_run.specs.Commands.{asking_of, task_of}
 use Rattle.dye_run.specs.Demo.{demo_job, matched_cost}
-use Rattle.dye_run.specs.Due.{CanBeRead}
-use Rattle.dye_run.specs.Endings.{World, with_written}
+use Rattle.run_core.specs.Due.{CanBeRead}
+use Rattle.run_core.specs.Endings.{World, with_written}
 use Rattle.dye_run.specs.Forms.{Form, check}
 use Rattle.dye_run.specs.Jobs.{reads_job}
-use Rattle.dye_run.specs.Outcome.{conclusion_status, reported}
-use Rattle.dye_run.specs.Reading.{Gets, result_of}
+use Rattle.run_core.specs.Outcome.{conclusion_status, reported}
+use Rattle.run_core.specs.Reading.{Gets, result_of}
 use Rattle.dye_run.specs.Search.{conclusion_of, evaluations_of, matched_values}
 use Rattle.dye_run.specs.Show.{recipe_values}
 use Rattle.dye_run.specs.Words.{CertWords}

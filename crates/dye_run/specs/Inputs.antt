@@ -6,14 +6,10 @@ use Rattle.spectral_tables.specs.CurveFile.{curve_table_of}
 use Rattle.spectral_tables.specs.WeightTable.{WeightTable}
 use Rattle.spectral_tables.specs.WeightFile.{weight_table_of}
 use Rattle.spectral_tables.specs.declared.fault.TableFault.{TableFault}
-use Rattle.dye_run.specs.Outcome.{Fault, no_column, table, too_long}
-use Rattle.dye_run.specs.Reading.{DueFile, Reading, makes, one_file, then_reads}
+use Rattle.run_core.specs.Asking.{◌>>=◌}
+use Rattle.run_core.specs.Outcome.{Fault, no_column, table, too_long}
+use Rattle.run_core.specs.Reading.{DueFile, Reading, makes, one_file, then_reads}
 use Rattle.spectral_tables.specs.declared.records.TheConstants.{TABLE_LIMIT}
-
-infixl 10 ◌>>=◌
-abbrev pub ◌>>=◌ : {A B : Type 0} → Result A Fault → (A → Result B Fault) → Result B Fault
-(Ok x) >>= f = f x
-(Err fault) >>= f = Err fault
 
 -- the value read from a file, or the fault that refuses the file
 abbrev pub unless_faulty : {T : Type 0} → List ℕ → Result T TableFault → Result T Fault

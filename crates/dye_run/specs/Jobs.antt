@@ -10,9 +10,10 @@ use Rattle.spectral_tables.specs.declared.grid.WaveGrid.TheVariants.{Ten}
 use Rattle.spectral_tables.specs.CurveFile.{curve_table_of}
 use Rattle.spectral_tables.specs.WeightTable.{WeightTable}
 use Rattle.spectral_tables.specs.WeightFile.{weight_table_of}
-use Rattle.dye_run.specs.Inputs.{◌>>=◌, due_table, table_from}
-use Rattle.dye_run.specs.Outcome.{Fault, job, too_long}
-use Rattle.dye_run.specs.Reading.{DueFile, Reading, any_file, each_file, makes, one_file, then_reads}
+use Rattle.run_core.specs.Asking.{◌>>=◌}
+use Rattle.dye_run.specs.Inputs.{due_table, table_from}
+use Rattle.run_core.specs.Outcome.{Fault, job, too_long}
+use Rattle.run_core.specs.Reading.{DueFile, Reading, any_file, each_file, makes, one_file, then_reads}
 use Rattle.box_cert.specs.declared.read.TheConstants.{CERT_LIMIT}
 use Rattle.dye_run.specs.declared.jobs.TheConstants.{JOB_LIMIT}
 

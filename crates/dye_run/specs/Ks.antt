@@ -4,9 +4,10 @@ use Rattle.ks_curves.specs.KubelkaMunk.{ks_at}
 use Rattle.spectral_tables.specs.declared.grid.WaveGrid.TheVariants.{Ten}
 use Rattle.spectral_tables.specs.CurveBook.{Book}
 use Rattle.spectral_tables.specs.Grid.{first_of, step_of}
-use Rattle.dye_run.specs.Answers.{Evaluation, Report, evaluation, plain_report}
-use Rattle.dye_run.specs.Inputs.{◌>>=◌, curve_from}
-use Rattle.dye_run.specs.Outcome.{Fault}
+use Rattle.run_core.specs.Answers.{Evaluation, Report, evaluation, plain_report}
+use Rattle.run_core.specs.Asking.{◌>>=◌}
+use Rattle.dye_run.specs.Inputs.{curve_from}
+use Rattle.run_core.specs.Outcome.{Fault}
 use Rattle.dye_run.specs.Words.{is_file_word}
 
 pub record KsWords : Type 0 where

@@ -1,7 +1,7 @@
 -- `lab`: the CIELAB coordinates of one column under a light.
 use Rattle.std.specs.Prelude.{ℕ, List, [], ◌∷◌, codes}
 use Rattle.spectral_tables.specs.WeightTable.{WeightTable}
-use Rattle.dye_run.specs.Answers.{Evaluation, evaluation}
+use Rattle.run_core.specs.Answers.{Evaluation, evaluation}
 use Rattle.dye_run.specs.Colours.{curve_lab}
 
 abbrev pub lab_evaluations : WeightTable → List ℕ → List Evaluation

@@ -10,11 +10,11 @@ use Rattle.job_file.specs.Resolve.{ResolvedJob}
 use Rattle.recipe_judge.specs.Recipes.{recipe_land}
 use Rattle.shade_report.specs.Outcomes.{outcome_text}
 use Rattle.shade_report.specs.Recipes.{RecipeValues}
-use Rattle.dye_run.specs.Answers.{Evaluation, Report}
-use Rattle.dye_run.specs.Outcome.{Fault}
+use Rattle.run_core.specs.Answers.{Evaluation, Report}
+use Rattle.run_core.specs.Outcome.{Fault}
 use Rattle.dye_run.specs.Show.{light_evaluations, recipe_values}
-use Rattle.dye_run.specs.declared.statuses.Conclusion.{Conclusion}
-use Rattle.dye_run.specs.declared.statuses.Conclusion.TheVariants as conclusion
+use Rattle.run_core.specs.declared.statuses.Conclusion.{Conclusion}
+use Rattle.run_core.specs.declared.statuses.Conclusion.TheVariants as conclusion
 
 -- the result of the search among the recipes of a job, within the job's budget
 abbrev pub result_for : ResolvedJob → SearchResult

@@ -15,12 +15,12 @@ use Rattle.recipe_judge.specs.Land.{over_batch}
 use Rattle.shade_report.specs.Recipes.{RecipeValues, show_text}
 use Rattle.spectral_tables.specs.Spectrum.{spectrum_at}
 use Rattle.spectral_tables.specs.WeightTable.{WeightTable}
-use Rattle.dye_run.specs.Answers.{Evaluation, Report}
+use Rattle.run_core.specs.Answers.{Evaluation, Report}
 use Rattle.fix_bounds.specs.Scales.{base_unit}
-use Rattle.dye_run.specs.Inputs.{◌>>=◌}
-use Rattle.dye_run.specs.Outcome.{Fault, steps}
+use Rattle.run_core.specs.Asking.{◌>>=◌}
+use Rattle.run_core.specs.Outcome.{Fault, steps}
 use Rattle.dye_run.specs.Words.{is_job_word}
-use Rattle.dye_run.specs.declared.statuses.Conclusion.TheVariants.{Judged}
+use Rattle.run_core.specs.declared.statuses.Conclusion.TheVariants.{Judged}
 
 pub record ShowWords : Type 0 where
   pub job : List ℕ

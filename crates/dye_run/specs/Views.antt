@@ -5,7 +5,6 @@ use Rattle.dye_run.specs.declared.cert_words.CertWords.{CertWords}
 use Rattle.dye_run.specs.declared.commands.diff.Diff.{Diff}
 use Rattle.dye_run.specs.declared.commands.ks.Ks.{Ks}
 use Rattle.dye_run.specs.declared.commands.show.Show.{Show}
-use Rattle.dye_run.specs.declared.inputs.DueFile.{DueFile}
 use Rattle.dye_run.specs.declared.jobs.Gathered.{Gathered}
 use Rattle.dye_run.specs.declared.jobs.JobRead.{JobRead}
 use Rattle.dye_run.specs.declared.jobs.JobTables.{JobTables}
@@ -13,14 +12,12 @@ use Rattle.dye_run.specs.declared.tables.Tables.{Tables}
 use Rattle.dye_run.specs.declared.tolerance.Tolerance.{Tolerance}
 use Rattle.dye_run.specs.declared.words.LitColumn.{LitColumn}
 use Rattle.job_file.specs.ResolvedView.{resolved_view}
-use Rattle.std.specs.Global.{Vec}
-use Rattle.std.specs.Prelude.{ℕ, List, Option, option_map}
+use Rattle.std.specs.Prelude.{ℕ, Option, option_map}
 use Rattle.dye_run.specs.Diff.{DiffWords}
 use Rattle.dye_run.specs.Forms.{Form, check, correct, demo, diff, ks, lab, predict, show, xyz}
 use Rattle.dye_run.specs.Inputs as inputs
 use Rattle.dye_run.specs.Jobs as jobs
 use Rattle.dye_run.specs.Ks.{KsWords}
-use Rattle.dye_run.specs.Reading as reading
 use Rattle.dye_run.specs.Show.{ShowWords}
 use Rattle.dye_run.specs.Words as words
 
@@ -65,10 +62,6 @@ form_view (code.Demo d) = demo d.0.number
 abbrev pub tables_view : Tables → inputs.Tables
 tables_view tables = record { book = tables.book; weights = tables.weights }
 
--- the bytes that were read from a file, or None where there were too many
-abbrev pub bytes_view : Option (Vec ℕ) → Option (List ℕ)
-bytes_view bytes_read = option_map (λ bytes. bytes.items) bytes_read
-
 -- the curves and the weights of a job that were read
 abbrev pub job_tables_view : JobTables → jobs.JobTables
 job_tables_view tables = record { book = tables.book; weights = tables.weights.items }
@@ -80,7 +73,3 @@ gathered_view g = record { tables = job_tables_view g.tables; text = g.text.item
 -- a job that was read and resolved, with the text of another file
 abbrev pub job_read_view : JobRead → jobs.JobRead
 job_read_view r = record { job = resolved_view r.resolved; text = r.text.items }
-
--- a file that is due
-abbrev pub due_view : DueFile → reading.DueFile
-due_view file = record { name = file.name.now; limit = file.limit }

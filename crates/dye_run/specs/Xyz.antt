@@ -1,7 +1,7 @@
 -- `xyz`: the tristimulus ratios of one column under a light.
 use Rattle.std.specs.Prelude.{ℕ, List, [], ◌∷◌, codes}
 use Rattle.spectral_tables.specs.WeightTable.{WeightTable}
-use Rattle.dye_run.specs.Answers.{Evaluation, evaluation}
+use Rattle.run_core.specs.Answers.{Evaluation, evaluation}
 use Rattle.dye_run.specs.Colours.{curve_ratios}
 
 abbrev pub xyz_evaluations : WeightTable → List ℕ → List Evaluation

@@ -4,8 +4,8 @@ ghost use Rattle.std.specs.Prelude.{◌≡◌, map, option_map, string_bytes};
 ghost use Rattle.dye_run.specs.Views.{cert_words_view};
 ghost use Rattle.dye_run.specs.Words.{cert_words};
 
-use crate::file_name::FileName;
 use crate::words::{names_cert, names_job};
+use run_core::FileName;
 
 /// The words JOB CERT: a job and a certificate.
 #[derive(Clone, Copy)]

@@ -1,10 +1,10 @@
 //! The commands, each with its words.
 
 ghost use Rattle.std.specs.Prelude.{◌≡◌, map, option_map, string_bytes};
-ghost use Rattle.dye_run.specs.Commands.{asking_of};
+ghost use Rattle.dye_run.specs.Commands.{asking_of, plan_of};
 ghost use Rattle.dye_run.specs.Forms.{form_of};
-ghost use Rattle.dye_run.specs.Judging.{IsJudged};
-ghost use Rattle.dye_run.specs.Reading.{ReadsDue};
+ghost use Rattle.run_core.specs.Judging.{IsJudged};
+ghost use Rattle.run_core.specs.Reading.{ReadsDue};
 ghost use Rattle.dye_run.specs.Views.{form_view};
 
 use crate::cert_words::CertWords;
@@ -17,11 +17,9 @@ use crate::commands::search::Search;
 use crate::commands::show::Show;
 use crate::commands::xyz::Xyz;
 use crate::coordinates::ColumnReport;
-use crate::inquiry::inquire;
-use crate::report::Report;
-use crate::stop::Stop;
 use crate::words::LitColumn;
 use job_file::BatchRule;
+use run_core::{Planned, Report, Stop, inquire};
 use shelf_io::Shelf;
 use std::alloc::Global;
 
@@ -63,8 +61,8 @@ pub(crate) fn command_of(words: &[String]) -> Option<Command<'_>>
     }
 }
 
-/// Reads the due files of a command, and judges them.
-pub(crate) fn judge<'a, H: Shelf>(
+// Reads the due files of a command, and makes the report on them.
+fn report_by<'a, H: Shelf>(
     alloc: Global,
     shelf: &mut H,
     command: Command<'a>,
@@ -84,5 +82,13 @@ pub(crate) fn judge<'a, H: Shelf>(
         Command::Correct(words) => inquire(alloc, shelf, Search(words, BatchRule::With)),
         Command::Check(words) => inquire(alloc, shelf, Check(words)),
         Command::Demo(words) => inquire(alloc, shelf, words),
+    }
+}
+
+impl<'a> Planned<'a> for Command<'a> {
+    ghost plan = { λ c. plan_of (form_view c) };
+
+    fn carry_out<H: Shelf>(self, alloc: Global, shelf: &mut H) -> Result<Report<'a>, Stop<'a>> {
+        report_by(alloc, shelf, self)
     }
 }

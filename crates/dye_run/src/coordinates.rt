@@ -2,18 +2,16 @@
 
 ghost use Rattle.std.specs.Prelude.{◌≡◌, IfOk, List, ℕ};
 ghost use Rattle.spectral_tables.specs.WeightTable.{HasItemEachWave, WeightTable};
-ghost use Rattle.dye_run.specs.Answers.{Evaluation, lines_of};
-ghost use Rattle.dye_run.specs.Asking.{reports_on};
+ghost use Rattle.run_core.specs.Answers.{Evaluation, lines_of};
+ghost use Rattle.run_core.specs.Asking.{reports_on};
 ghost use Rattle.dye_run.specs.Coordinates.{coordinates_report};
 ghost use Rattle.dye_run.specs.Inputs.{reads_tables};
 ghost use Rattle.dye_run.specs.Views.{lit_view, tables_view};
 
 use crate::inputs::read_tables;
-use crate::inquiry::Inquiry;
-use crate::report::{Report, plain_report};
-use crate::stop::Stop;
 use crate::tables::{Tables, curve_from};
 use crate::words::LitColumn;
+use run_core::{Inquiry, Report, Stop, plain_report};
 use shelf_io::Shelf;
 use spectral_tables::{Curve, Weights};
 use std::alloc::{AllocError, Global};

@@ -1,5 +1,5 @@
 ghost use Rattle.std.specs.Prelude.{◌≡◌, ◌++◌, IfOk, OnOk};
-ghost use Rattle.dye_run.specs.Answers.{line};
+ghost use Rattle.run_core.specs.Answers.{line};
 
 use arrayvec::ArrayVec;
 use dec_text::put_pair;

@@ -5,7 +5,7 @@ ghost use Rattle.job_keys.specs.Light.{IsLight};
 ghost use Rattle.price_grid.specs.Grid.{IsRecipe};
 ghost use Rattle.recipe_judge.specs.Evaluation.{tolerances};
 ghost use Rattle.shade_report.specs.Recipes.{shown_view};
-ghost use Rattle.dye_run.specs.Endings.{IsSearchable};
+ghost use Rattle.run_core.specs.Endings.{IsSearchable};
 ghost use Rattle.dye_run.specs.Show.{recipe_values, verdicts_from};
 
 use arrayvec::ArrayVec;

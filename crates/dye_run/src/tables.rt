@@ -8,10 +8,10 @@ ghost use Rattle.spectral_tables.specs.WeightFile.{weight_table_of};
 ghost use Rattle.spectral_tables.specs.declared.fault.TableFault.{TableFault};
 ghost use Rattle.spectral_tables.specs.declared.grid.WaveGrid.TheVariants.{Ten};
 ghost use Rattle.dye_run.specs.Inputs.{curve_from, table_from};
-ghost use Rattle.dye_run.specs.Judging.{Gives};
+ghost use Rattle.run_core.specs.Judging.{Gives};
 ghost use Rattle.spectral_tables.specs.declared.records.TheConstants.{TABLE_LIMIT};
 
-use crate::stop::Stop;
+use run_core::Stop;
 use shade_report::Refusal;
 use spectral_tables::{Curve, CurveBook, TableError, WaveGrid, Weights, read_curves, read_weights};
 use std::alloc::Global;

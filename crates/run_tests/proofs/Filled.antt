@@ -6,14 +6,13 @@ use Rattle.shelf_io.specs.Contents.{Contents}
 use Rattle.shelf_io.specs.Filling.{IsFilled}
 use Rattle.shelf_io.specs.MemShelf.{ShelfState, promises_reads, promises_writes, shelf_contents, shelf_view}
 use Rattle.shelf_io.specs.MemSink.{SinkState, promises_puts, sink_view}
-use Rattle.dye_run.specs.Asking.{Asking}
-use Rattle.dye_run.specs.Commands.{asking_for}
-use Rattle.dye_run.specs.Due.{up_to_limit}
-use Rattle.dye_run.specs.Endings.{out_of_memory_status, with_written, world}
-use Rattle.dye_run.specs.Forms.{Form}
-use Rattle.dye_run.specs.Outcome.{Outcome, text_of, written_of}
-use Rattle.dye_run.specs.Reading.{IsDue, asks, held_or_missing, makes, result_of}
-use Rattle.dye_run.specs.Statuses as statuses
+use Rattle.run_core.specs.Asking.{Asking}
+use Rattle.run_core.specs.Plan.{Plan, asking_for}
+use Rattle.run_core.specs.Due.{up_to_limit}
+use Rattle.run_core.specs.Endings.{out_of_memory_status, with_written, world}
+use Rattle.run_core.specs.Outcome.{Outcome, text_of, written_of}
+use Rattle.run_core.specs.Reading.{IsDue, asks, held_or_missing, makes, result_of}
+use Rattle.run_core.specs.Statuses as statuses
 use Rattle.run_tests.specs.Filled.{IsDone, IsReliable}
 
 read_is : (limit : ℕ) (file read : Option (List ℕ)) (bytes : List ℕ) → file ≡ Some bytes → IsSomeAnd file (λ b. read ≡ up_to_limit limit b) → read ≡ up_to_limit limit bytes
@@ -52,25 +51,25 @@ writes_fit : (room slots : ℕ) (files : List (List ℕ × List ℕ)) (s : Shelf
 writes_fit room slots files s f None h = h
 writes_fit room slots files s f (Some w) h = f.writes w.0 (length w.1) (inl h.0) h.1
 
-is_done : (form : Option Form) (room slots : ℕ) (files : List (List ℕ × List ℕ)) (o : Outcome) (s t : ShelfState) (b d : SinkState) (status : ℕ) → IsFilled room slots files s
-    → statuses.IsPrinted form (world (shelf_view s) (sink_view b)) (world (shelf_view t) (sink_view d)) o status
+is_done : (plan : Option Plan) (room slots : ℕ) (files : List (List ℕ × List ℕ)) (o : Outcome) (s t : ShelfState) (b d : SinkState) (status : ℕ) → IsFilled room slots files s
+    → statuses.IsPrinted plan (world (shelf_view s) (sink_view b)) (world (shelf_view t) (sink_view d)) o status
     → (status ≡ out_of_memory_status) ⊎ IsDone room files o b d status t
-is_done form room slots files o s t b d status f (inl e) = inl e
-is_done form room slots files o s t b d status f (inr (e, l)) =
+is_done plan room slots files o s t b d status f (inl e) = inl e
+is_done plan room slots files o s t b d status f (inr (e, l)) =
     let taken = l.taken in
     let P : Contents → Type 0 = λ c. Some (shelf_contents t) ≡ with_written (written_of o) (Some c) in
     inr record { status = e; text = cc; file = subst P f.contents l.contents }
 
 -- the clause of `run` on promised calls holds of a filled shelf, and says what was done
-pub is_reliable : (form : Option Form) (room slots : ℕ) (files : List (List ℕ × List ℕ)) (s t : ShelfState) (b d : SinkState) (status : ℕ) → IsFilled room slots files s
-    → statuses.IsReliable form (world (shelf_view s) (sink_view b)) (world (shelf_view t) (sink_view d)) status
-    → IsReliable form room slots files b d status t
-is_reliable form room slots files s t b d status f r = λ o h fit quiet short.
-    let P : Contents → Type 0 = λ c. result_of c.file (asking_for form) ≡ Ok o in
-    let here : result_of (shelf_contents s).file (asking_for form) ≡ Ok o = subst P (sym f.contents) h in
-    let reads : (n : List ℕ) → IsDue (Some (shelf_contents s)) (asking_for form) n → IsTrue (promises_reads s n) =
+pub is_reliable : (plan : Option Plan) (room slots : ℕ) (files : List (List ℕ × List ℕ)) (s t : ShelfState) (b d : SinkState) (status : ℕ) → IsFilled room slots files s
+    → statuses.IsReliable plan (world (shelf_view s) (sink_view b)) (world (shelf_view t) (sink_view d)) status
+    → IsReliable plan room slots files b d status t
+is_reliable plan room slots files s t b d status f r = λ o h fit quiet short.
+    let P : Contents → Type 0 = λ c. result_of c.file (asking_for plan) ≡ Ok o in
+    let here : result_of (shelf_contents s).file (asking_for plan) ≡ Ok o = subst P (sym f.contents) h in
+    let reads : (n : List ℕ) → IsDue (Some (shelf_contents s)) (asking_for plan) n → IsTrue (promises_reads s n) =
     λ n due. let Q : Contents → Type 0 = λ c. IsSome (c.file n) in
-    f.reads n (subst Q f.contents (due_held (shelf_contents s) o (asking_for form) n here due)) in
+    f.reads n (subst Q f.contents (due_held (shelf_contents s) o (asking_for plan) n here due)) in
     let puts : IsTrue (promises_puts b (length (text_of o))) = both_true (none_scheduled b.failing) (nat_le (length (text_of o)) b.room) quiet (fits (length (text_of o)) b.room short) in
-    is_done form room slots files o s t b d status f
+    is_done plan room slots files o s t b d status f
     (r (shelf_contents s) o refl here reads (writes_fit room slots files s f (written_of o) fit) puts).0

@@ -3,27 +3,24 @@
 
 ghost use Rattle.std.specs.Prelude.{◌≡◌, ◌≤◌, codes, IfOk, map, option_map, string_bytes};
 ghost use Rattle.std.specs.Option.{ForSome};
-ghost use Rattle.dye_run.specs.Answers.{Evaluation};
+ghost use Rattle.run_core.specs.Answers.{Evaluation};
 ghost use Rattle.fix_bounds.specs.Scales.{base_unit};
 ghost use Rattle.dye_run.specs.Commands.{asking_of};
 ghost use Rattle.dye_run.specs.Diff.{diff_report, diff_with, diff_words, difference_report, tolerance_of};
 ghost use Rattle.dye_run.specs.Forms as form;
-ghost use Rattle.dye_run.specs.Judging.{Matches};
+ghost use Rattle.run_core.specs.Judging.{Matches};
 ghost use Rattle.dye_run.specs.Views.{diff_view, tables_view, tolerance_view};
 
 use crate::colour::difference;
 use crate::inputs::read_tables;
-use crate::inquiry::Inquiry;
 use crate::lines::push_enclosure;
-use crate::report::{Report, plain_report};
-use crate::statuses::Conclusion;
-use crate::stop::Stop;
 use crate::tables::{Tables, curve_from};
 use crate::tolerance::Tolerance;
 use crate::words::{names_file, number_in};
 use cmc_bounds::Cmc;
 use fix_bounds::{Base, Iv};
 use metamerism::judge_light;
+use run_core::{Conclusion, Inquiry, Report, Stop, plain_report};
 use shade_report::verdict_name;
 use shelf_io::Shelf;
 use std::alloc::{AllocError, Global};

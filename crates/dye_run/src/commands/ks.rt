@@ -3,20 +3,18 @@
 ghost use Rattle.std.specs.Prelude.{◌≡◌, IfOk, map, option_map, string_bytes};
 ghost use Rattle.spectral_tables.specs.Grid.{first_of};
 ghost use Rattle.spectral_tables.specs.declared.grid.WaveGrid.TheVariants.{Ten};
-ghost use Rattle.dye_run.specs.Answers.{lines_of};
+ghost use Rattle.run_core.specs.Answers.{lines_of};
 ghost use Rattle.dye_run.specs.Commands.{asking_of};
 ghost use Rattle.dye_run.specs.Forms as form;
 ghost use Rattle.dye_run.specs.Ks.{ks_evaluations, ks_report, ks_words};
 ghost use Rattle.dye_run.specs.Views.{ks_view};
 
 use crate::inputs::read_book;
-use crate::inquiry::Inquiry;
 use crate::lines::push_enclosure;
-use crate::report::{Report, plain_report};
-use crate::stop::Stop;
 use crate::tables::curve_from;
 use crate::words::names_file;
 use fix_bounds::Base;
+use run_core::{Inquiry, Report, Stop, plain_report};
 use shelf_io::Shelf;
 use spectral_tables::{Curve, CurveBook, WaveGrid};
 use std::alloc::{AllocError, Global};

@@ -2,22 +2,19 @@
 
 ghost use Rattle.std.specs.Prelude.{◌≡◌, IfOk, map, None, option_map, string_bytes};
 ghost use Rattle.price_grid.specs.Grid.{IsRecipe};
-ghost use Rattle.dye_run.specs.Asking.{reports_on};
+ghost use Rattle.run_core.specs.Asking.{reports_on};
 ghost use Rattle.dye_run.specs.Jobs.{reads_job};
-ghost use Rattle.dye_run.specs.Judging.{Gives};
+ghost use Rattle.run_core.specs.Judging.{Gives};
 ghost use Rattle.dye_run.specs.Show.{recipe_from, show_report, show_rule, show_words};
 ghost use Rattle.dye_run.specs.Views.{show_view};
 
-use crate::inquiry::Inquiry;
 use crate::jobs::read_job;
 use crate::recipes::shown_of;
-use crate::report::Report;
-use crate::statuses::Conclusion;
-use crate::stop::Stop;
 use crate::words::names_job;
 use job_file::BatchRule;
 use price_grid::{Steps, admits, read_steps};
 use recipe_judge::RecipeLand;
+use run_core::{Conclusion, Inquiry, Report, Stop};
 use shade_report::{Refusal, show_text};
 use shelf_io::Shelf;
 use std::alloc::Global;

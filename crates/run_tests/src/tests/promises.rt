@@ -2,7 +2,7 @@
 //! command and has room for its certificate, and a sink that has room for its text.
 
 ghost use Rattle.std.specs.Prelude.{IfOk, map, string_bytes};
-ghost use Rattle.dye_run.specs.Forms.{form_of};
+ghost use Rattle.dye_run.specs.Commands.{plan_for};
 ghost use Rattle.run_tests.specs.Filled.{IsReliable};
 
 use super::files::{even_light, flat, ks_lines};
@@ -25,7 +25,7 @@ fn run_filled(
     slots: usize,
     out: &mut MemSink,
 ) -> Result<(u8, MemShelf), AllocError>
-    ensures { IfOk result (λ end. IsReliable (form_of (map string_bytes words.now))
+    ensures { IfOk result (λ end. IsReliable (plan_for (map string_bytes words.now))
         room slots (map (λ f. (f.0.now, f.1.now)) files.now) out.old out.new end.0 end.1) }
 {
     let mut shelf = MemShelf::holding(alloc, room, slots, files)?;

@@ -3,11 +3,11 @@ use Rattle.spectral_tables.specs.CurveBook.{Book}
 use Rattle.spectral_tables.specs.CurveFile.{curve_table_of}
 use Rattle.spectral_tables.specs.declared.grid.WaveGrid.TheVariants.{Ten}
 use Rattle.dye_run.specs.Inputs.{due_table, reads_book, table_from}
-use Rattle.dye_run.specs.Judging.{Breaks}
-use Rattle.dye_run.specs.Outcome.{Fault}
-use Rattle.dye_run.specs.Reading.{Reading, Reads, ReadsDue, makes, one_file}
-use Rattle.dye_run.specs.Views.{bytes_view}
-use Rattle.dye_run.proofs.Readings.{breaks_first, due_reads, made_then, reads_first, unmade}
+use Rattle.run_core.specs.Judging.{Breaks}
+use Rattle.run_core.specs.Outcome.{Fault}
+use Rattle.run_core.specs.Reading.{Reading, Reads, ReadsDue, makes, one_file}
+use Rattle.run_core.specs.Views.{bytes_view}
+use Rattle.run_core.proofs.Readings.{breaks_first, due_reads, made_then, reads_first, unmade}
 use Rattle.dye_run.proofs.inputs.read_book.Goals as goal
 
 pub returns-in_err-bytes_read-clause-made : goal.returns-in_err-bytes_read-clause-made

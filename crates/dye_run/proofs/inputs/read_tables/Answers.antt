@@ -1,10 +1,11 @@
 use Rattle.std.proofs.Common.{ℕ, List, Option, Result, rules, subst}
 use Rattle.dye_run.specs.Inputs.{Tables, due_table, reads_tables, tables_from}
-use Rattle.dye_run.specs.Judging.{Breaks}
-use Rattle.dye_run.specs.Outcome.{Fault}
-use Rattle.dye_run.specs.Reading.{Reading, Reads, ReadsDue, makes, one_file, then_reads}
-use Rattle.dye_run.specs.Views.{bytes_view, tables_view}
-use Rattle.dye_run.proofs.Readings.{breaks_first, breaks_rest, due_reads, made_rest, made_then, reads_first, reads_rest, unmade}
+use Rattle.run_core.specs.Judging.{Breaks}
+use Rattle.run_core.specs.Outcome.{Fault}
+use Rattle.run_core.specs.Reading.{Reading, Reads, ReadsDue, makes, one_file, then_reads}
+use Rattle.run_core.specs.Views.{bytes_view}
+use Rattle.dye_run.specs.Views.{tables_view}
+use Rattle.run_core.proofs.Readings.{breaks_first, breaks_rest, due_reads, made_rest, made_then, reads_first, reads_rest, unmade}
 use Rattle.dye_run.proofs.inputs.read_tables.Goals as goal
 
 pub returns-in_err-first-clause-made : goal.returns-in_err-first-clause-made

@@ -2,7 +2,7 @@
 use Rattle.std.proofs.Common.{◌≡◌, ◌∷◌, map, take}
 use Rattle.job_file.specs.JobView.{job_view}
 use Rattle.dye_run.specs.Inputs.{due_table}
-use Rattle.dye_run.specs.Views.{due_view}
+use Rattle.run_core.specs.Views.{due_view}
 use Rattle.dye_run.proofs.jobs.files_of.Given as goal
 
 abbrev pub invariant-loop-light : goal.invariant-loop-light

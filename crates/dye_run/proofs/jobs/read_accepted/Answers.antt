@@ -1,10 +1,11 @@
 use Rattle.std.proofs.Common.{option_map}
 use Rattle.job_file.specs.JobView.{job_view}
-use Rattle.dye_run.specs.Inputs.{◌>>=◌}
+use Rattle.run_core.specs.Asking.{◌>>=◌}
 use Rattle.dye_run.specs.Jobs.{read_from, reads_accepted, reads_gathered}
-use Rattle.dye_run.specs.Reading.{makes}
-use Rattle.dye_run.specs.Views.{due_view, gathered_view, job_read_view}
-use Rattle.dye_run.proofs.Readings.{owned_made, reads_first, step_made, step_unmade}
+use Rattle.run_core.specs.Reading.{makes}
+use Rattle.run_core.specs.Views.{due_view}
+use Rattle.dye_run.specs.Views.{gathered_view, job_read_view}
+use Rattle.run_core.proofs.Readings.{owned_made, reads_first, step_made, step_unmade}
 use Rattle.dye_run.proofs.jobs.read_accepted.Goals as goal
 
 pub returns-in-Err-clause-made : goal.returns-in-Err-clause-made

@@ -3,12 +3,13 @@ use Rattle.job_file.specs.JobView.{job_view}
 use Rattle.dye_run.specs.Files.{FitsFiles}
 use Rattle.dye_run.specs.Inputs.{due_table}
 use Rattle.dye_run.specs.Jobs.{Gathered, gathered_from, job_files, reads_gathered}
-use Rattle.dye_run.specs.Judging.{Breaks}
-use Rattle.dye_run.specs.Outcome.{Fault}
-use Rattle.dye_run.specs.Reading.{Reading, Reads, any_file, each_file, makes, then_reads}
-use Rattle.dye_run.specs.Views.{bytes_view, due_view, gathered_view}
+use Rattle.run_core.specs.Judging.{Breaks}
+use Rattle.run_core.specs.Outcome.{Fault}
+use Rattle.run_core.specs.Reading.{Reading, Reads, any_file, each_file, makes, then_reads}
+use Rattle.run_core.specs.Views.{bytes_view, due_view}
+use Rattle.dye_run.specs.Views.{gathered_view}
 use Rattle.dye_run.proofs.JobsRead.{job_fits}
-use Rattle.dye_run.proofs.Readings.{breaks_first, breaks_rest, due_reads, made_rest, made_then, none_due, reads_first, reads_rest, unmade}
+use Rattle.run_core.proofs.Readings.{breaks_first, breaks_rest, due_reads, made_rest, made_then, none_due, reads_first, reads_rest, unmade}
 use Rattle.dye_run.proofs.jobs.read_gathered.Goals as goal
 
 pub returns-in_err-files-clause-reads : goal.returns-in_err-files-clause-reads

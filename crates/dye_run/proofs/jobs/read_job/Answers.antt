@@ -1,12 +1,13 @@
 use Rattle.std.proofs.Common.{ℕ, List, Option, Result, Err, option_map, rules, sym, subst}
 use Rattle.job_file.specs.Job.{Values}
 use Rattle.dye_run.specs.Jobs.{JobRead, due_job, job_from, reads_accepted, reads_job, where_accepted}
-use Rattle.dye_run.specs.Judging.{IsMade}
-use Rattle.dye_run.specs.Outcome.{Fault}
-use Rattle.dye_run.specs.Reading.{Reading, ReadsDue, one_file}
-use Rattle.dye_run.specs.Views.{bytes_view, due_view, job_read_view}
+use Rattle.run_core.specs.Judging.{IsMade}
+use Rattle.run_core.specs.Outcome.{Fault}
+use Rattle.run_core.specs.Reading.{Reading, ReadsDue, one_file}
+use Rattle.run_core.specs.Views.{bytes_view, due_view}
+use Rattle.dye_run.specs.Views.{job_read_view}
 use Rattle.dye_run.proofs.JobsRead.{unaccepted}
-use Rattle.dye_run.proofs.Readings.{breaks_first, made_rest, none_due, reads_first, reads_rest, unmade}
+use Rattle.run_core.proofs.Readings.{breaks_first, made_rest, none_due, reads_first, reads_rest, unmade}
 use Rattle.dye_run.proofs.jobs.read_job.Goals as goal
 
 pub returns-in_err-bytes_read-clause-made : goal.returns-in_err-bytes_read-clause-made

@@ -3,7 +3,7 @@ use Rattle.std.proofs.lemmas.List.Elements.{All-push}
 use Rattle.spectral_tables.specs.declared.grid.WaveGrid.TheVariants.{Ten}
 use Rattle.spectral_tables.specs.Grid.{count_of}
 use Rattle.spectral_tables.specs.WeightTable.{WeightTable}
-use Rattle.dye_run.specs.Judging.{stop_outcome}
+use Rattle.run_core.specs.Judging.{stop_outcome}
 use Rattle.dye_run.proofs.JobTables.{weights_all, weights_fault, weights_more}
 use Rattle.dye_run.proofs.jobs.weights_of.Goals as goal
 

@@ -3,7 +3,7 @@ use Rattle.std.proofs.Common.{◌≡◌, [], All, drop, length, map}
 use Rattle.spectral_tables.specs.declared.grid.WaveGrid.TheVariants.{Ten}
 use Rattle.spectral_tables.specs.Grid.{count_of}
 use Rattle.dye_run.specs.Jobs.{weights_after}
-use Rattle.dye_run.specs.Views.{bytes_view}
+use Rattle.run_core.specs.Views.{bytes_view}
 use Rattle.dye_run.proofs.jobs.weights_of.Given as goal
 
 abbrev pub invariant-loop-i : goal.invariant-loop-i

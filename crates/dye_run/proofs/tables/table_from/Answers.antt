@@ -1,6 +1,6 @@
 use Rattle.std.proofs.Common.{rules, refl}
 use Rattle.dye_run.specs.Inputs.{table_from}
-use Rattle.dye_run.specs.Outcome.{table, too_long}
+use Rattle.run_core.specs.Outcome.{table, too_long}
 use Rattle.dye_run.proofs.tables.table_from.Goals as goal
 
 pub returns-in_default-clause-is : goal.returns-in_default-clause-is

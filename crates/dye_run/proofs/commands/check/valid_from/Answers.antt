@@ -1,7 +1,7 @@
 use Rattle.std.proofs.Common.{refl, sym, ap, ◌∙◌}
 use Rattle.box_cert.specs.Spelling.{content}
 use Rattle.dye_run.specs.Check.{unless_failing, valid_from}
-use Rattle.dye_run.specs.Outcome.{invalid}
+use Rattle.run_core.specs.Outcome.{invalid}
 use Rattle.dye_run.proofs.CheckFacts.{refused_failure}
 use Rattle.dye_run.proofs.commands.check.valid_from.Goals as goal
 

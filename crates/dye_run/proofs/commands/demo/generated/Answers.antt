@@ -1,8 +1,9 @@
 use Rattle.std.proofs.Common.{map, rules, ap, ◌∙◌}
 use Rattle.job_file.specs.JobView.{job_view}
 use Rattle.job_file.specs.ResolvedView.{resolved_view}
-use Rattle.dye_run.specs.Judging.{stop_outcome}
-use Rattle.dye_run.specs.Views.{bytes_view, job_tables_view}
+use Rattle.run_core.specs.Judging.{stop_outcome}
+use Rattle.run_core.specs.Views.{bytes_view}
+use Rattle.dye_run.specs.Views.{job_tables_view}
 use Rattle.dye_run.proofs.DemoFacts.{generated_fit, gives_no_refusal, gives_value, job_from_slice, job_is, not_owned, not_refused, resolves, tables_are, tables_view_is}
 use Rattle.dye_run.proofs.commands.demo.generated.Goals as goal
 

@@ -1,4 +1,4 @@
-use Rattle.std.proofs.Common.{◌≡◌, ◌+◌, ◌*◌, ◌^◌, ◌∙◌, ℕ, decimal, ap, arith}
+use Rattle.std.proofs.Common.{◌≡◌, ◌+◌, ◌*◌, ◌^◌, ◌∙◌, decimal, ap, arith}
 use Rattle.ks_curves.specs.KubelkaMunk.{ks_at}
 use Rattle.spectral_tables.specs.declared.waves.Waves.{Waves}
 use Rattle.dye_run.proofs.Ks.{ks_step}

@@ -1,6 +1,6 @@
 -- The text so far with the lines of the rest is the text of the whole curve.
 use Rattle.std.proofs.Common.{◌≡◌, ◌+◌, ◌*◌, ◌++◌, drop}
-use Rattle.dye_run.specs.Answers.{lines_of}
+use Rattle.run_core.specs.Answers.{lines_of}
 use Rattle.dye_run.specs.Ks.{ks_evaluations}
 use Rattle.dye_run.proofs.commands.ks.ks_text.Given as goal
 

@@ -1,7 +1,7 @@
 use Rattle.dye_run.specs.Coordinates.{coordinates_report}
 use Rattle.dye_run.specs.Inputs.{reads_tables}
 use Rattle.dye_run.specs.Views.{lit_view, tables_view}
-use Rattle.dye_run.proofs.Readings.{input_by, input_reads}
+use Rattle.run_core.proofs.Readings.{input_by, input_reads}
 use Rattle.dye_run.proofs.coordinates.ColumnReportInquiry.read.Goals as goal
 
 pub returns-clause-input : goal.returns-clause-input

@@ -1,5 +1,5 @@
 use Rattle.std.proofs.Common.{refl, ◌∙◌, ap}
-use Rattle.dye_run.specs.Answers.{plain_report}
+use Rattle.run_core.specs.Answers.{plain_report}
 use Rattle.dye_run.specs.Coordinates.{coordinates_report}
 use Rattle.dye_run.proofs.coordinates.ColumnReportInquiry.report.Goals as goal
 

@@ -3,7 +3,7 @@ use Rattle.box_cert.specs.Spelling.{content}
 use Rattle.cert_laws.specs.Laws.{content_of}
 use Rattle.shade_report.specs.Outcomes.{GoesWith, demo_text}
 use Rattle.dye_run.specs.Demo.{demo_report, matched_cost}
-use Rattle.dye_run.specs.Judging.{stop_outcome}
+use Rattle.run_core.specs.Judging.{stop_outcome}
 use Rattle.dye_run.specs.Search.{conclusion_of, result_for}
 use Rattle.dye_run.proofs.DemoFacts.{cost_goes, demo_report_is, never_refused, not_refused, same_content}
 use Rattle.dye_run.proofs.commands.demo.DemoInquiry.report.Goals as goal

@@ -1,7 +1,7 @@
 use Rattle.dye_run.specs.Diff.{diff_report}
 use Rattle.dye_run.specs.Inputs.{reads_tables}
 use Rattle.dye_run.specs.Views.{diff_view, tables_view}
-use Rattle.dye_run.proofs.Readings.{input_by, input_reads}
+use Rattle.run_core.proofs.Readings.{input_by, input_reads}
 use Rattle.dye_run.proofs.commands.diff.DiffInquiry.read.Goals as goal
 
 pub returns-clause-input : goal.returns-clause-input

@@ -1,7 +1,7 @@
 use Rattle.dye_run.specs.Inputs.{reads_book}
 use Rattle.dye_run.specs.Ks.{ks_report}
 use Rattle.dye_run.specs.Views.{ks_view}
-use Rattle.dye_run.proofs.Readings.{input_by, input_reads}
+use Rattle.run_core.proofs.Readings.{input_by, input_reads}
 use Rattle.dye_run.proofs.commands.ks.KsInquiry.read.Goals as goal
 
 pub returns-clause-input : goal.returns-clause-input

@@ -1,11 +1,11 @@
 use Rattle.std.proofs.Common.{None, rules, sym, subst}
-use Rattle.dye_run.specs.Asking.{reports_on}
+use Rattle.run_core.specs.Asking.{reports_on}
 use Rattle.dye_run.specs.Jobs.{JobRead, reads_job}
-use Rattle.dye_run.specs.Outcome.{outcome_of}
-use Rattle.dye_run.specs.Reading.{Gets}
+use Rattle.run_core.specs.Outcome.{outcome_of}
+use Rattle.run_core.specs.Reading.{Gets}
 use Rattle.dye_run.specs.Show.{show_report, show_rule}
 use Rattle.dye_run.specs.Views.{job_read_view, show_view}
-use Rattle.dye_run.proofs.Readings.{input_by, input_made, input_reads}
+use Rattle.run_core.proofs.Readings.{input_by, input_made, input_reads}
 use Rattle.dye_run.proofs.commands.show.ShowInquiry.read.Goals as goal
 
 pub returns-in_err-read-clause-input : goal.returns-in_err-read-clause-input

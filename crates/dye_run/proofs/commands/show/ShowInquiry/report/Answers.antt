@@ -1,7 +1,7 @@
 use Rattle.std.proofs.Common.{refl, ap, ◌∙◌}
 use Rattle.shade_report.specs.Recipes.{show_text}
 use Rattle.dye_run.specs.Show.{recipe_report, show_report}
-use Rattle.dye_run.specs.declared.statuses.Conclusion.TheVariants.{Judged}
+use Rattle.run_core.specs.declared.statuses.Conclusion.TheVariants.{Judged}
 use Rattle.dye_run.proofs.ShowFacts.{recipe_fits}
 use Rattle.dye_run.proofs.commands.show.ShowInquiry.report.Goals as goal
 

@@ -1,0 +1,5 @@
+mod Ends
+mod Judged
+pub mod Proper
+pub mod Readings
+pub mod Table

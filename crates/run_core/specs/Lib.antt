@@ -1,0 +1,11 @@
+pub mod Answers
+pub mod Asking
+pub mod Delivery
+pub mod Due
+pub mod Endings
+pub mod Judging
+pub mod Outcome
+pub mod Plan
+pub mod Reading
+pub mod Statuses
+pub mod Views
