@@ -23,7 +23,7 @@ fn by_bytes(alloc: Global, text: &[u8]) -> Result<Cert, CertError> {
         return Err(CertError::Memory);
     };
     for byte in text {
-        let _told = give(&mut feed, &[*byte]);
+        let _early = give(&mut feed, &[*byte]);
     }
     feed.finish()
 }
@@ -31,7 +31,7 @@ fn by_bytes(alloc: Global, text: &[u8]) -> Result<Cert, CertError> {
 // The text of a certificate.
 fn is_text_of(alloc: Global, cert: &Cert, text: &str) -> Result<bool, AllocError> {
     let mut shelf = MemShelf::empty(alloc, 200, 1)?;
-    let _told = write_cert(cert, &mut shelf, "cert");
+    let _written = write_cert(cert, &mut shelf, "cert");
     Ok(shelf.file("cert") == Some(text.as_bytes()))
 }
 
@@ -42,8 +42,8 @@ fn reads_bytes_one_by_one(rt: HostRuntime) -> Result<(), Fail> {
     Ok(())
 }
 
-// The answers to two pieces of a text, and to the end of the text.
-fn answers(
+// The faults that are reported for two pieces of a text, and at the end of the text.
+fn faults_of(
     alloc: Global,
     first: &str,
     second: &str,
@@ -82,8 +82,8 @@ fn answers_the_same_fault_again(rt: HostRuntime) -> Result<(), Fail> {
         ),
     ] {
         let fault = Some(CertFault { line, rule });
-        let told = answers(rt.alloc(), first, second)?;
-        assert_eq!(rt; told, (fault, fault, fault), "{first}");
+        let faults = faults_of(rt.alloc(), first, second)?;
+        assert_eq!(rt; faults, (fault, fault, fault), "{first}");
     }
     Ok(())
 }
@@ -100,8 +100,8 @@ fn waits_for_the_end_of_a_line(rt: HostRuntime) -> Result<(), Fail> {
         rule: CertRule::Missing,
     });
     let more = "sssssssssssssssssssssssssssssssssssssssssssssssssssssssssssssssss";
-    assert_eq!(rt; answers(rt.alloc(), long, more)?, (None, None, missing));
-    assert_eq!(rt; answers(rt.alloc(), long, "\nd\n")?, (None, fault, fault));
+    assert_eq!(rt; faults_of(rt.alloc(), long, more)?, (None, None, missing));
+    assert_eq!(rt; faults_of(rt.alloc(), long, "\nd\n")?, (None, fault, fault));
     Ok(())
 }
 
@@ -125,12 +125,12 @@ fn takes_a_byte_at_a_time(rt: HostRuntime) -> Result<(), Fail> {
     shelf.read_most(1);
     let cert = take_cert(rt.alloc(), &mut shelf, "good", 2)?;
     assert!(rt; is_text_of(rt.alloc(), &cert, MATCH_CERT)?);
-    let told = take_cert(rt.alloc(), &mut shelf, "bad", 2);
+    let read = take_cert(rt.alloc(), &mut shelf, "bad", 2);
     let fault = CertFault {
         line: 4,
         rule: CertRule::BadLine,
     };
-    assert!(rt; matches!(&told, Err(TakeCertError::Grammar(f)) if *f == fault));
+    assert!(rt; matches!(&read, Err(TakeCertError::Grammar(f)) if *f == fault));
     // The file was read to its end, past its fault.
     assert_eq!(rt; shelf.handed("bad"), bad.len() as u64);
     let lost = take_cert(rt.alloc(), &mut shelf, "lost", 2);
@@ -145,7 +145,7 @@ fn puts_a_failed_read_before_a_fault(rt: HostRuntime) -> Result<(), Fail> {
     shelf.put_file("bad", b"\n\n".as_slice())?;
     shelf.read_most(1);
     shelf.fail_at(2)?;
-    let told = take_cert(rt.alloc(), &mut shelf, "bad", 2);
-    assert_eq!(rt; word(&told), "fault");
+    let read = take_cert(rt.alloc(), &mut shelf, "bad", 2);
+    assert_eq!(rt; word(&read), "fault");
     Ok(())
 }
